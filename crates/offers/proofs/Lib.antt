@@ -1,0 +1,9 @@
+pub mod Tests
+pub mod Laying
+pub mod Merging
+pub mod Curving
+pub mod Sums
+pub mod InForm
+pub mod Rising
+pub mod Equal
+pub mod Claims

@@ -1,0 +1,4 @@
+pub mod Tests
+pub mod Curves
+pub mod Submissions
+pub mod Claims
