@@ -1,0 +1,6 @@
+pub mod Decimal
+pub mod Spans
+pub mod Canonical
+pub mod Cuts
+pub mod Drafting
+pub mod Lined
