@@ -1,0 +1,13 @@
+pub mod FiguresHold
+pub mod Casts
+pub mod Sums
+pub mod Rising
+pub mod Greedy
+pub mod Nearest
+pub mod Levying
+pub mod Weights
+pub mod Laying
+pub mod Dividing
+pub mod Kilowatts
+pub mod Fitting
+pub mod Merits

@@ -1,0 +1,9 @@
+pub mod Spans
+pub mod Rounding
+pub mod Ramps
+pub mod Blocks
+pub mod Stations
+pub mod Held
+pub mod Levies
+pub mod Claims
+pub mod Figures
