@@ -1,0 +1,4 @@
+pub mod Tested
+pub mod Rows
+pub mod Moves
+pub mod Totals

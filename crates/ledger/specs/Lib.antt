@@ -1,0 +1,4 @@
+pub mod View
+pub mod Posting
+pub mod Rows
+pub mod Sums
