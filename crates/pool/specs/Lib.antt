@@ -1,0 +1,4 @@
+pub mod Checks
+pub mod Day
+pub mod Held
+pub mod Rungs

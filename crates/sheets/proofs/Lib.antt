@@ -1,0 +1,4 @@
+pub mod Lists
+pub mod Registers
+pub mod Blank
+pub mod Sheets
