@@ -1,0 +1,4 @@
+pub mod Wording
+pub mod Counting
+pub mod Laying
+pub mod Sizes
