@@ -6,11 +6,11 @@ use Rattle.offers.specs.declared.pair.Pair.{Pair}
 use Rattle.day_text.specs.declared.keyword.Keyword.{Keyword}
 use Rattle.day_text.specs.declared.keyword.Keyword.TheVariants as keyword
 use Rattle.day_text.specs.declared.line.DayLine.{DayLine}
-use Rattle.day_text.specs.declared.line.DayLine.TheVariants.{Blank, Sheets, Limit, Journal, Register, Open, Lodge, Start, Reading, Position, Demand, Close, Settle, Adjust, PrintJournal, NotACall}
+use Rattle.day_text.specs.declared.line.DayLine.TheVariants.{Blank, Sheets, Limit, Register, Open, Lodge, Start, Reading, Position, Demand, Close, Settle, Adjust, NotACall}
 use Rattle.day_text.specs.declared.arguments.Target.{Target}
 use Rattle.day_text.specs.declared.arguments.Offer.{Offer}
 use Rattle.day_text.specs.Keywords.{keyword_of}
-use Rattle.day_text.specs.Words.{words, and_then, first, past, ended, natural, number, integer, cents, all_pairs}
+use Rattle.day_text.specs.Words.{words, and_then, first, ended, natural, number, integer, cents, all_pairs}
 
 -- ---- each line by the words after its keyword
 abbrev pub sheets_of : List (List ℕ) → Option DayLine
@@ -19,10 +19,6 @@ sheets_of ws = and_then (first (natural 1 48) ws) (λ n. ended (Sheets n.0) n.1)
 -- a ledger has at most 64 accounts
 abbrev pub limit_of : List (List ℕ) → Option DayLine
 limit_of ws = and_then (first (natural 0 63) ws) (λ a. and_then (first cents a.1) (λ c. ended (Limit a.0 c.0) c.1))
-
--- a ledger that keeps a journal of at most a million lines
-abbrev pub journal_of : List (List ℕ) → Option DayLine
-journal_of ws = and_then (past (codes "journal") ws) (λ j. and_then (first (natural 0 1000000) j) (λ n. ended (Journal n.0) n.1))
 
 abbrev pub register_of : List (List ℕ) → Option DayLine
 register_of ws =
@@ -59,10 +55,6 @@ close_of ws = and_then (first number ws) (λ i. ended (Close i.0) i.1)
 abbrev pub settle_of : List (List ℕ) → Option DayLine
 settle_of ws = and_then (first number ws) (λ i. ended (Settle i.0) i.1)
 
--- the journal alone can be printed
-abbrev pub print_of : List (List ℕ) → Option DayLine
-print_of ws = and_then (past (codes "journal") ws) (λ j. ended PrintJournal j)
-
 -- facility, interval and ramps of a lodge
 abbrev pub offer_of : List (List ℕ) → Option (Offer × List (List ℕ))
 offer_of ws =
@@ -80,7 +72,6 @@ lodge_of ws = and_then (offer_of ws) (λ o. option_map (lodged o.0) (all_pairs o
 abbrev pub arguments_of : Keyword → List (List ℕ) → Option DayLine
 arguments_of keyword.Sheets ws = sheets_of ws
 arguments_of keyword.Limit ws = limit_of ws
-arguments_of keyword.Ledger ws = journal_of ws
 arguments_of keyword.Register ws = register_of ws
 arguments_of keyword.Open ws = open_of ws
 arguments_of keyword.Start ws = start_of ws
@@ -90,7 +81,6 @@ arguments_of keyword.Demand ws = demand_of ws
 arguments_of keyword.Close ws = close_of ws
 arguments_of keyword.Settle ws = settle_of ws
 arguments_of keyword.Adjust ws = adjust_of ws
-arguments_of keyword.Print ws = print_of ws
 
 -- a line other than a lodge, by its first word and the others
 abbrev pub plain_of : List ℕ → List (List ℕ) → Option DayLine

@@ -2,7 +2,6 @@
 use Rattle.std.specs.Prelude.{ℕ, Bool, true, false, cond, List, [], ◌∷◌, length, ℤ, pos, negsuc, Some, None, Option, ◌==◌, nat_le}
 use Rattle.std.specs.Option.{option_map}
 use Rattle.std.specs.Result.{result_ok}
-use Rattle.std.specs.Str.{bytes_eq}
 use Rattle.text.specs.Numbers.{natural_of, signed_of}
 use Rattle.text.specs.Lines.{before, after}
 use Rattle.offers.specs.declared.pair.Pair.{Pair}
@@ -33,10 +32,6 @@ and_then (Some x) f = f x
 -- what the first word says, and the words after it
 abbrev pub first : {X : Type 0} → (List ℕ → Option X) → List (List ℕ) → Option (X × List (List ℕ))
 first f ws = and_then (next_word ws) (λ n. option_map (λ x. (x, n.1)) (f n.0))
-
--- the words after the first, which must be this one
-abbrev pub past : List ℕ → List (List ℕ) → Option (List (List ℕ))
-past written ws = and_then (next_word ws) (λ n. cond (bytes_eq n.0 written) (Some n.1) None)
 
 -- no word may be left
 abbrev pub ended : {X : Type 0} → X → List (List ℕ) → Option X

@@ -1,12 +1,12 @@
 // Each line by the words after its keyword.
 ghost use Rattle.std.specs.Prelude.{◌≡◌};
 ghost use Rattle.std.specs.Option.{option_map};
-ghost use Rattle.day_text.specs.Words.{words_left, past, ended};
-ghost use Rattle.day_text.specs.Lines.{sheets_of, limit_of, journal_of, register_of, open_of, target_of, start_of, reading_of, adjust_of, position_of, demand_of, close_of, settle_of, print_of, offer_of, plain_of};
+ghost use Rattle.day_text.specs.Words.{words_left, ended};
+ghost use Rattle.day_text.specs.Lines.{sheets_of, limit_of, register_of, open_of, target_of, start_of, reading_of, adjust_of, position_of, demand_of, close_of, settle_of, offer_of, plain_of};
 
-use crate::keyword::{Keyword, is_word, keyword_of};
+use crate::keyword::{Keyword, keyword_of};
 use crate::line::DayLine;
-use crate::numbers::{cents, integer, next_word, number};
+use crate::numbers::{cents, integer, number};
 
 // Of whom and when a line speaks.
 #[derive(Clone, Copy)]
@@ -22,18 +22,6 @@ pub struct Offer {
     pub interval: u32,
     pub ramp_up: u32,
     pub ramp_down: u32,
-}
-
-// What is left after the next word, which must be this one.
-fn past<'a>(left: Option<&'a [u8]>, written: &[u8]) -> Option<Option<&'a [u8]>>
-    ensures { option_map (λ x. words_left (option_map (λ x. x.now) x)) result ≡ past written.now (words_left (option_map (λ x. x.now) left.entry)) }
-{
-    let (word, left) = next_word(left)?;
-    if is_word(word, written) {
-        Some(left)
-    } else {
-        None
-    }
 }
 
 // The line, if no word is left.
@@ -59,14 +47,6 @@ fn limit(left: Option<&[u8]>) -> Option<DayLine>
     let (account, left) = number(left, 0, 63)?;
     let (cents, left) = cents(left)?;
     complete(DayLine::Limit { account, cents }, left)
-}
-
-fn journal(left: Option<&[u8]>) -> Option<DayLine>
-    ensures { result ≡ journal_of (words_left (option_map (λ x. x.now) left.entry)) }
-{
-    let left = past(left, b"journal")?;
-    let (lines, left) = number(left, 0, 1_000_000)?;
-    complete(DayLine::Journal { lines }, left)
 }
 
 fn register(left: Option<&[u8]>) -> Option<DayLine>
@@ -179,13 +159,6 @@ fn settle(left: Option<&[u8]>) -> Option<DayLine>
     complete(DayLine::Settle { interval }, left)
 }
 
-fn print(left: Option<&[u8]>) -> Option<DayLine>
-    ensures { result ≡ print_of (words_left (option_map (λ x. x.now) left.entry)) }
-{
-    let left = past(left, b"journal")?;
-    complete(DayLine::PrintJournal, left)
-}
-
 // Facility, interval and ramps of a lodge, and what is left of the line.
 pub fn read_offer(left: Option<&[u8]>) -> Option<(Offer, Option<&[u8]>)>
     ensures { option_map (λ x. (x.0, words_left (option_map (λ x. x.now) x.1))) result ≡ offer_of (words_left (option_map (λ x. x.now) left.entry)) }
@@ -210,7 +183,6 @@ pub fn plain(word: &[u8], left: Option<&[u8]>) -> Option<DayLine>
     match keyword_of(word)? {
         Keyword::Sheets => sheets(left),
         Keyword::Limit => limit(left),
-        Keyword::Ledger => journal(left),
         Keyword::Register => register(left),
         Keyword::Open => open(left),
         Keyword::Start => start(left),
@@ -220,6 +192,5 @@ pub fn plain(word: &[u8], left: Option<&[u8]>) -> Option<DayLine>
         Keyword::Close => close(left),
         Keyword::Settle => settle(left),
         Keyword::Adjust => adjust(left),
-        Keyword::Print => print(left),
     }
 }

@@ -7,7 +7,6 @@ ghost use Rattle.day_text.specs.Keywords.{named, keyword_of};
 pub enum Keyword {
     Sheets,
     Limit,
-    Ledger,
     Register,
     Open,
     Start,
@@ -17,7 +16,6 @@ pub enum Keyword {
     Close,
     Settle,
     Adjust,
-    Print,
 }
 
 // Whether the word is this one.
@@ -43,7 +41,6 @@ pub fn keyword_of(word: &[u8]) -> Option<Keyword>
 {
     named(word, b"sheets", Keyword::Sheets)
         .or(named(word, b"limit", Keyword::Limit))
-        .or(named(word, b"ledger", Keyword::Ledger))
         .or(named(word, b"register", Keyword::Register))
         .or(named(word, b"open", Keyword::Open))
         .or(named(word, b"start", Keyword::Start))
@@ -53,5 +50,4 @@ pub fn keyword_of(word: &[u8]) -> Option<Keyword>
         .or(named(word, b"close", Keyword::Close))
         .or(named(word, b"settle", Keyword::Settle))
         .or(named(word, b"adjust", Keyword::Adjust))
-        .or(named(word, b"print", Keyword::Print))
 }

@@ -13,10 +13,6 @@ pub enum DayLine {
         account: u32,
         cents: i64,
     },
-    // How many lines of a journal the ledger keeps.
-    Journal {
-        lines: u32,
-    },
     Register {
         account: u32,
         loss_factor: u32,
@@ -66,6 +62,5 @@ pub enum DayLine {
         interval: u32,
         kwmin: u32,
     },
-    PrintJournal,
     NotACall,
 }

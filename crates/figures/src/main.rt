@@ -4,7 +4,6 @@ use std::io;
 mod cases;
 mod figure;
 mod report;
-mod sheet;
 
 fn main(rt: HostRuntime) -> io::Result<()> {
     let tally = report::all_figures(&rt)?;

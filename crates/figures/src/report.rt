@@ -1,7 +1,6 @@
 // Each figure in a line: what it is, what it should be, what it came to, and whether the two are equal.
 use crate::cases::{ADJUSTED, Adjusting, CASES, Case, ENERGIES, LEVIES, Levying, Ramping, Setting};
 use crate::figure::{Answer, Figure, Tally};
-use crate::sheet::sheet_figures;
 use offers::curve::Curve;
 use offers::submission::Submission;
 use schedule::block::Blocks;
@@ -21,8 +20,7 @@ pub fn all_figures(rt: &HostRuntime) -> io::Result<Tally> {
     )?;
     let tally = energies(rt, tally)?;
     let tally = stations(rt, tally)?;
-    let tally = levies(rt, tally)?;
-    sheet_figures(rt, tally)
+    levies(rt, tally)
 }
 
 fn adjusted_prices(rt: &HostRuntime, mut tally: Tally) -> io::Result<Tally> {

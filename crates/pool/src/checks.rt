@@ -3,8 +3,7 @@ ghost use Rattle.std.specs.Prelude.{◌≡◌, ◌-◌, ◌<◌, true, [], ◌�
 ghost use Rattle.sheets.specs.Tests.{within, within_int};
 ghost use Rattle.sheets.specs.Held.{known};
 ghost use Rattle.sheets.specs.Changes.{comes};
-ghost use Rattle.sheets.specs.Sheets.{reading_fits};
-ghost use Rattle.pool.specs.Checks.{told, figures};
+ghost use Rattle.pool.specs.Checks.{told};
 ghost use Rattle.pool.specs.Day.{not_open, is_open, room, interval_known, facility_known, account_known, in_state};
 
 use refusals::Refusal;
@@ -34,12 +33,6 @@ pub fn figure(position: u32, fits: bool) -> Result<(), Refusal>
     } else {
         Err(Refusal::Figure(position))
     }
-}
-
-pub fn reading_in_span(kwmin: u32) -> Result<(), Refusal>
-    ensures { result ≡ figures 1 (reading_fits kwmin ∷ []) }
-{
-    figure(1, kwmin <= 30_000_000)
 }
 
 pub fn before_open(register: &Register) -> Result<(), Refusal>

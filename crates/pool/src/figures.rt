@@ -1,7 +1,7 @@
 // The calls that bring a figure: start, reading, position and demand.
 ghost use Rattle.std.specs.Prelude.{◌≡◌, [], ◌∷◌};
 ghost use Rattle.ledger.specs.View.{View};
-ghost use Rattle.sheets.specs.Sheets.{start_fits, contract_fits, load_fits, demand_fits};
+ghost use Rattle.sheets.specs.Sheets.{start_fits, reading_fits, contract_fits, load_fits, demand_fits};
 ghost use Rattle.pool.specs.declared.call.Call.TheVariants as call;
 ghost use Rattle.pool.specs.declared.call.Answer.TheVariants as answer;
 ghost use Rattle.pool.specs.Checks.{figures};
@@ -9,8 +9,8 @@ ghost use Rattle.pool.specs.Day.{Does};
 ghost use Rattle.pool.specs.Held.{held};
 
 use crate::checks::{
-    after_open, facility_place, figure, in_signed_span, in_span, known_account, reading_in_span,
-    sheet_for, sheet_place,
+    after_open, facility_place, figure, in_signed_span, in_span, known_account, sheet_for,
+    sheet_place,
 };
 use refusals::Refusal;
 use sheets::register::Register;
@@ -42,6 +42,12 @@ pub fn start(
     };
     rows[at] = sheet.row();
     Ok(())
+}
+
+fn reading_in_span(kwmin: u32) -> Result<(), Refusal>
+    ensures { result ≡ figures 1 (reading_fits kwmin ∷ []) }
+{
+    figure(1, kwmin <= 30_000_000)
 }
 
 // Keeps a facility's reading.

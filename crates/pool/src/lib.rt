@@ -1,6 +1,6 @@
 // The calls of a day, each taken or refused by one table.
 pub mod call;
-pub mod checks;
+mod checks;
 pub mod closing;
 mod curves;
 pub mod figures;

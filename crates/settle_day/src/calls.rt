@@ -1,12 +1,25 @@
-// The lines of a day file as calls.
-use day_text::line::DayLine;
-use merit::rung::RUNGS;
-use offers::pair::Pair;
-use pool::call::Call;
+// A line of the day file as a call, and the call made.
+ghost use Rattle.std.specs.Prelude.{◌≡◌};
+ghost use Rattle.std.specs.Result.{result_map_both as mapped_both};
+ghost use Rattle.pool.specs.declared.call.Answer.TheVariants.{Set};
 
-// The call of a facility's or a sheet's own figure, if the line is one.
-fn figure_call<'a>(line: DayLine) -> Option<Call<'a>> {
+use day_text::line::DayLine;
+use merit::rung::{RUNGS, Rung};
+use offers::pair::Pair;
+use pool::call::{Answer, Call};
+use pool::closing::close;
+use pool::figures::{demand, position, reading, start};
+use pool::lodging::lodge;
+use pool::opening::{open, register as add};
+use refusals::Refusal;
+use sheets::facility::Prices;
+use sheets::register::Register;
+use sheets::row::{Position, Row};
+
+// The call that a line makes, if it is one of a single figure or of an account.
+fn plain_call<'a>(line: DayLine) -> Option<Call<'a>> {
     match line {
+        DayLine::Open { low, high } => Some(Call::Open { low, high }),
         DayLine::Start {
             facility,
             interval,
@@ -26,21 +39,17 @@ fn figure_call<'a>(line: DayLine) -> Option<Call<'a>> {
             kwmin,
         }),
         DayLine::Demand { interval, kw } => Some(Call::Demand { interval, kw }),
-        DayLine::Adjust {
-            facility,
+        DayLine::Close { interval } => Some(Call::Close {
             interval,
-            kwmin,
-        } => Some(Call::Adjust {
-            facility,
-            interval,
-            kwmin,
+            rungs: RUNGS,
         }),
+        // Settling and adjusting are not there yet.
         _ => None,
     }
 }
 
-// The call that needs nothing but numbers, if the line is one.
-fn plain_call<'a>(line: DayLine) -> Option<Call<'a>> {
+// The call that a line makes. The pairs of a lodge stand at the front of the memory, which always has them.
+pub fn call_of<'a>(line: DayLine, memory: &'a [Pair]) -> Option<Call<'a>> {
     match line {
         DayLine::Register {
             account,
@@ -53,30 +62,6 @@ fn plain_call<'a>(line: DayLine) -> Option<Call<'a>> {
             capacity,
             tolerance,
         }),
-        DayLine::Open { low, high } => Some(Call::Open { low, high }),
-        DayLine::Position {
-            account,
-            interval,
-            contract,
-            load,
-        } => Some(Call::Position {
-            account,
-            interval,
-            contract,
-            load,
-        }),
-        DayLine::Close { interval } => Some(Call::Close {
-            interval,
-            rungs: RUNGS,
-        }),
-        DayLine::Settle { interval } => Some(Call::Settle { interval }),
-        _ => figure_call(line),
-    }
-}
-
-// The call that a line makes, if it makes one. The pairs of a lodge stand in the memory from a place on.
-pub fn call_of<'a>(line: DayLine, memory: &'a [Pair], from: usize) -> Option<Call<'a>> {
-    match line {
         DayLine::Lodge {
             facility,
             interval,
@@ -88,23 +73,88 @@ pub fn call_of<'a>(line: DayLine, memory: &'a [Pair], from: usize) -> Option<Cal
             interval,
             ramp_up,
             ramp_down,
-            pairs: part(memory, from, pairs),
+            pairs: &memory[0..pairs.min(memory.len())],
+        }),
+        DayLine::Position {
+            account,
+            interval,
+            contract,
+            load,
+        } => Some(Call::Position {
+            account,
+            interval,
+            contract,
+            load,
         }),
         _ => plain_call(line),
     }
 }
 
-// So many pairs from a place on, or as many as there are.
-fn part(memory: &[Pair], from: usize, count: usize) -> &[Pair] {
-    let from = from.min(memory.len());
-    let count = count.min(memory.len() - from);
-    &memory[from..from + count]
+fn set(res: Result<(), Refusal>) -> Result<Answer, Refusal>
+    ensures { result ≡ mapped_both (λ _. Set) (λ e. e) res }
+{
+    match res {
+        Ok(()) => Ok(Answer::Set),
+        Err(refusal) => Err(refusal),
+    }
 }
 
-// How many pairs a line brings.
-pub fn pairs_in(line: DayLine) -> usize {
-    match line {
-        DayLine::Lodge { pairs, .. } => pairs,
-        _ => 0,
+// Makes the call.
+pub fn make(register: &mut Register, rows: &mut [Row], call: Call) -> Result<Answer, Refusal> {
+    match call {
+        Call::Register {
+            account,
+            loss_factor,
+            capacity,
+            tolerance,
+        } => {
+            let number = add(register, account, loss_factor, capacity, tolerance)?;
+            Ok(Answer::Number(number))
+        }
+        Call::Open { low, high } => {
+            open(register, Prices { low, high })?;
+            Ok(Answer::Opened)
+        }
+        Call::Lodge {
+            facility,
+            interval,
+            ramp_up,
+            ramp_down,
+            pairs,
+        } => {
+            let lodged = lodge(
+                register, rows, facility, interval, ramp_up, ramp_down, pairs,
+            )?;
+            Ok(Answer::Lodging(lodged))
+        }
+        Call::Start {
+            facility,
+            interval,
+            kw,
+        } => set(start(register, rows, facility, interval, kw)),
+        Call::Reading {
+            facility,
+            interval,
+            kwmin,
+        } => set(reading(register, rows, facility, interval, kwmin)),
+        Call::Position {
+            account,
+            interval,
+            contract,
+            load,
+        } => set(position(
+            register,
+            rows,
+            account,
+            interval,
+            Position { contract, load },
+        )),
+        Call::Demand { interval, kw } => set(demand(register, rows, interval, kw)),
+        Call::Close { interval, rungs } => {
+            let mut working = [Rung::blank(); RUNGS];
+            let lent = rungs.min(RUNGS);
+            let (price, facility) = close(register, rows, interval, &mut working[0..lent])?;
+            Ok(Answer::Price { price, facility })
+        }
     }
 }

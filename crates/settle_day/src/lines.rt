@@ -1,7 +1,10 @@
-// A text by lines.
-use crate::plan::Plan;
+// The lines of a day file, answered one by one.
+use crate::day::{Day, Said};
+use answer_text::{answer_line, balance_line, not_a_call, sum_line};
+use ledger::accounts::Accounts;
 use offers::pair::Pair;
-use std::alloc::AllocError;
+use std::io;
+use std::io::Write;
 
 // The number of the line that the last byte stands on, or that would come next.
 pub fn number_of_lines(text: &[u8]) -> usize {
@@ -14,16 +17,62 @@ pub fn number_of_lines(text: &[u8]) -> usize {
     n
 }
 
-// Plans each line. The last one may lack its line feed.
-pub fn plan_lines(plan: &mut Plan, text: &[u8], memory: &mut [Pair]) -> Result<(), AllocError> {
+// The length of the longest line.
+pub fn longest(text: &[u8]) -> usize {
+    let mut longest = 0usize;
+    let mut length = 0usize;
+    for b in text {
+        length = if *b == b'\n' {
+            0
+        } else {
+            length.saturating_add(1)
+        };
+        longest = longest.max(length);
+    }
+    longest
+}
+
+fn answer<W: Write>(
+    out: &mut W,
+    day: &mut Day,
+    number: u64,
+    line: &[u8],
+    memory: &mut [Pair],
+) -> io::Result<()> {
+    match day.take(line, memory) {
+        Said::Nothing => Ok(()),
+        Said::Answer(result) => out.write_all(answer_line(number, result).bytes()),
+        Said::NotACall => out.write_all(not_a_call(number).bytes()),
+    }
+}
+
+// Answers each line. The last one may lack its line feed.
+pub fn answer_lines<W: Write>(
+    out: &mut W,
+    day: &mut Day,
+    text: &[u8],
+    memory: &mut [Pair],
+) -> io::Result<()> {
     let mut from = 0;
     let mut number: u64 = 1;
     for (i, b) in text.iter().enumerate() {
         if *b == b'\n' {
-            plan.take(number, &text[from..i], memory)?;
+            answer(out, day, number, &text[from..i], memory)?;
             from = i + 1;
             number += 1;
         }
     }
-    plan.take(number, &text[from..], memory)
+    answer(out, day, number, &text[from..], memory)
+}
+
+// The balances of all accounts, and their sum, which 64 accounts cannot make too large.
+pub fn write_balances<W: Write, L: Accounts>(out: &mut W, ledger: &L) -> io::Result<()> {
+    let mut sum = 0i64;
+    for account in 0..ledger.accounts() {
+        if let Some(cents) = ledger.balance(account) {
+            sum = sum.saturating_add(cents);
+            out.write_all(balance_line(account, cents).bytes())?;
+        }
+    }
+    out.write_all(sum_line(sum).bytes())
 }

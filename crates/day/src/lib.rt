@@ -1,5 +1,0 @@
-// A whole day: any list of calls on a register, sheets and a ledger, and the law that it follows.
-mod answers;
-pub mod run;
-mod step;
-pub mod whole;

@@ -1,5 +1,0 @@
-// A ledger in lent memory: lines of account and cents, written one behind the other.
-pub mod entry;
-pub mod journal;
-pub mod lent;
-pub mod line;
