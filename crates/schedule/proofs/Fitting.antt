@@ -12,7 +12,6 @@ use Rattle.offers.specs.declared.pair.Pair.{Pair}
 use Rattle.offers.specs.declared.submission.Submission.{Submission}
 use Rattle.offers.proofs.Tests.{and_first, and_second}
 use Rattle.schedule.specs.Spans.{balancing_fits, factor_fits, figures_fit, submission_fits, station_fits, price_fits, curve_fits, ramp_fits}
-use Rattle.schedule.specs.Ramps.{energy}
 use Rattle.schedule.specs.Blocks.{blocks_from, kw_where}
 use Rattle.schedule.specs.Stations.{Operation, operates, energy_of, upper, lower, upward, downward, counted, out_of_merit, energy_out, energy_counted, blocks_for, blocks_of}
 use Rattle.schedule.specs.declared.block.Block.{Block}

@@ -7,9 +7,9 @@ use Rattle.answer_text.proofs.answer_line.Goals as goal
 
 pub returns : goal.returns
 returns c =
-    let new = held c.new-draft.result in let a = held c.push-natural.new.self in let b = held c.push.new.self in
-    let d = held c.push-result.new.draft in let e = held c.push-2.new.self in
+    let new = held c.new-draft.result in let a = held c.push_natural.new.self in let b = held c.push.new.self in
+    let d = held c.push_result.new.draft in let e = held c.push-2.new.self in
     let n = c.args.line in let r = c.args.res in
     from_none new e (answered n r) c.new-draft.ensures
-    (omega (arith, length-append (decimal n) (codes ": " ++ (result_words r ++ codes "\n")), length-append (result_words r) (codes "\n"), short_natural n c.ranges.line, c.push-result.ensures.short))
-    (four new a b d e (decimal n) (codes ": ") (result_words r) (codes "\n") c.push-natural.ensures c.push.ensures c.push-result.ensures.after c.push-2.ensures)
+    (omega (arith, length-append (decimal n) (codes ": " ++ (result_words r ++ codes "\n")), length-append (result_words r) (codes "\n"), short_natural n c.ranges.line, c.push_result.ensures.short))
+    (four new a b d e (decimal n) (codes ": ") (result_words r) (codes "\n") c.push_natural.ensures c.push.ensures c.push_result.ensures.after c.push-2.ensures)

@@ -9,10 +9,10 @@ use Rattle.answer_text.proofs.balance_line.Goals as goal
 
 pub returns : goal.returns
 returns c =
-    let new = held c.new-draft.result in let a = held c.push-figure.new.draft in let b = held c.push.new.self in
-    let d = held c.push-signed.new.self in let e = held c.push-2.new.self in
+    let new = held c.new-draft.result in let a = held c.push_figure.new.draft in let b = held c.push.new.self in
+    let d = held c.push_signed.new.self in let e = held c.push-2.new.self in
     let n = c.args.account in let z = c.args.cents in
     from_none new e (balance_text n z) c.new-draft.ensures
-    (omega (arith, length-append (codes "account=" ++ decimal n) (codes " balance=" ++ (signed_decimal z ++ codes "\n")), length-append (signed_decimal z) (codes "\n"), c.push-figure.ensures.short, short_signed z c.ranges.cents))
-    (four new a b d e (codes "account=" ++ decimal n) (codes " balance=") (signed_decimal z) (codes "\n") c.push-figure.ensures.after c.push.ensures
-    (c.push-signed.ensures ∙ ap (λ x. kept (b ++ signed_decimal x)) (to_z-of_z w64 z c.ranges.cents)) c.push-2.ensures)
+    (omega (arith, length-append (codes "account=" ++ decimal n) (codes " balance=" ++ (signed_decimal z ++ codes "\n")), length-append (signed_decimal z) (codes "\n"), c.push_figure.ensures.short, short_signed z c.ranges.cents))
+    (four new a b d e (codes "account=" ++ decimal n) (codes " balance=") (signed_decimal z) (codes "\n") c.push_figure.ensures.after c.push.ensures
+    (c.push_signed.ensures ∙ ap (λ x. kept (b ++ signed_decimal x)) (to_z-of_z w64 z c.ranges.cents)) c.push-2.ensures)

@@ -7,8 +7,8 @@ use Rattle.answer_text.proofs.not_a_call.Goals as goal
 
 pub returns : goal.returns
 returns c =
-    let new = held c.new-draft.result in let a = held c.push-natural.new.self in let b = held c.push.new.self in
+    let new = held c.new-draft.result in let a = held c.push_natural.new.self in let b = held c.push.new.self in
     let n = c.args.line in
     from_none new b (not_answered n) c.new-draft.ensures
     (omega (arith, length-append (decimal n) (codes ": not a call\n"), short_natural n c.ranges.line))
-    (two new a b (decimal n) (codes ": not a call\n") c.push-natural.ensures c.push.ensures)
+    (two new a b (decimal n) (codes ": not a call\n") c.push_natural.ensures c.push.ensures)

@@ -8,6 +8,6 @@ pub returns : goal.returns
 returns c =
     let key = c.args.key.now in let n = c.args.n in
     record {
-      after = two (held c.args.draft.now) (held c.push.new.self) (held c.push-natural.new.self) key (decimal n) c.push.ensures c.push-natural.ensures;
+      after = two (held c.args.draft.now) (held c.push.new.self) (held c.push_natural.new.self) key (decimal n) c.push.ensures c.push_natural.ensures;
       short = omega (arith, length-append key (decimal n), short_natural n c.ranges.n);
     }

@@ -9,20 +9,20 @@ use Rattle.answer_text.proofs.push_refusal.Goals as goal
 pub returns : goal.returns
 returns c =
     let old = held c.args.draft.now in let f = c.args.refusal in
-    let a = held c.push-figure.new.draft in let b = held c.push-figure-2.new.draft in let d = held c.push-reason.new.draft in
+    let a = held c.push_figure.new.draft in let b = held c.push_figure-2.new.draft in let d = held c.push_reason.new.draft in
     let x = codes "refused=" ++ decimal (refusal_number f) in let y = codes " place=" ++ decimal (refusal_place f) in let z = reason_words (refusal_reason f) in
     record {
       after = three old a b d x y z
-          (c.push-figure.ensures.after ∙ ap (λ n. kept (old ++ (codes "refused=" ++ decimal n))) c.number.ensures)
-          (c.push-figure-2.ensures.after ∙ ap (λ n. kept (a ++ (codes " place=" ++ decimal n))) c.place.ensures)
-          (c.push-reason.ensures.after ∙ ap (λ o. kept (b ++ reason_words o)) c.reason.ensures);
+          (c.push_figure.ensures.after ∙ ap (λ n. kept (old ++ (codes "refused=" ++ decimal n))) c.number.ensures)
+          (c.push_figure-2.ensures.after ∙ ap (λ n. kept (a ++ (codes " place=" ++ decimal n))) c.place.ensures)
+          (c.push_reason.ensures.after ∙ ap (λ o. kept (b ++ reason_words o)) c.reason.ensures);
       short = omega (
         arith,
         length-append x (y ++ z),
         length-append y z,
-        c.push-figure.ensures.short,
-        c.push-figure-2.ensures.short,
-        c.push-reason.ensures.short,
+        c.push_figure.ensures.short,
+        c.push_figure-2.ensures.short,
+        c.push_reason.ensures.short,
         ap (λ n. length (codes "refused=" ++ decimal n)) c.number.ensures,
         ap (λ n. length (codes " place=" ++ decimal n)) c.place.ensures,
         ap (λ o. length (reason_words o)) c.reason.ensures,

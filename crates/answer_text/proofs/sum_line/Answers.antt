@@ -10,9 +10,9 @@ use Rattle.answer_text.proofs.sum_line.Goals as goal
 pub returns : goal.returns
 returns c =
     let new = held c.new-draft.result in let a = held c.push.new.self in
-    let b = held c.push-signed.new.self in let d = held c.push-2.new.self in
+    let b = held c.push_signed.new.self in let d = held c.push-2.new.self in
     let z = c.args.cents in
     from_none new d (sum_text z) c.new-draft.ensures
     (omega (arith, length-append (signed_decimal z) (codes "\n"), short_signed z c.ranges.cents))
     (three new a b d (codes "sum=") (signed_decimal z) (codes "\n") c.push.ensures
-    (c.push-signed.ensures ∙ ap (λ x. kept (a ++ signed_decimal x)) (to_z-of_z w64 z c.ranges.cents)) c.push-2.ensures)
+    (c.push_signed.ensures ∙ ap (λ x. kept (a ++ signed_decimal x)) (to_z-of_z w64 z c.ranges.cents)) c.push-2.ensures)

@@ -11,15 +11,15 @@ use Rattle.merit.specs.Prices.{marginal}
 use Rattle.merit.proofs.Sound.{walked, found_price, found_near, found_none, sheet_reaches}
 use Rattle.merit.proofs.price.balancing_price.Goals as goal
 
-pub returns-in-err-marginal : goal.returns-in-err-marginal
-returns-in-err-marginal c =
+pub returns-in_err-marginal : goal.returns-in_err-marginal
+returns-in_err-marginal c =
     let s = c.args.sheet.now in
     let g = s.register.now in
     let os = offers_of (known g) (table g s.row) in
-    let d = c.in-ok-demand.demand in
-    let e = walked os _ c.lay-sheet-n.new.working c.lay-sheet-n.result d None c.lay-sheet-n.ensures.count c.lay-sheet-n.ensures.slots c.in-err-marginal.ensures in
-    let none = found_none g s.row d s.sound (sym c.in-ok-demand.ensures) e in
-    let got = c.from-residual-in-err-marginal.ensures in
+    let d = c.in_ok-demand.demand in
+    let e = walked os _ c.lay_sheet-n.new.working c.lay_sheet-n.result d None c.lay_sheet-n.ensures.count c.lay_sheet-n.ensures.slots c.in_err-marginal.ensures in
+    let none = found_none g s.row d s.sound (sym c.in_ok-demand.ensures) e in
+    let got = c.from_residual-in_err-marginal.ensures in
     record {
       value = ap (option_map (λ (x : BalancingPrice × ℕ). (x.0.cents, x.1))) got ∙ sym none;
       told = ap is_some got ∙ sym (ap is_some none) ∙ sheet_reaches g s.row s.sound;
@@ -30,11 +30,11 @@ unreachable-requires c =
     let s = c.args.sheet.now in
     let g = s.register.now in
     let os = offers_of (known g) (table g s.row) in
-    let d = c.in-ok-demand.demand in
-    let m = c.in-ok-marginal.marginal in
-    let e = walked os _ c.lay-sheet-n.new.working c.lay-sheet-n.result d (Some m) c.lay-sheet-n.ensures.count c.lay-sheet-n.ensures.slots c.in-ok-marginal.ensures in
-    let near : nat_abs m.price ≤ 125000 = found_near g s.row d s.sound (sym c.in-ok-demand.ensures) m e in
-    let outside : balancing_fits (to_z w64 (of_z w64 m.price)) ≡ false = c.in-default.ensures in
+    let d = c.in_ok-demand.demand in
+    let m = c.in_ok-marginal.marginal in
+    let e = walked os _ c.lay_sheet-n.new.working c.lay_sheet-n.result d (Some m) c.lay_sheet-n.ensures.count c.lay_sheet-n.ensures.slots c.in_ok-marginal.ensures in
+    let near : nat_abs m.price ≤ 125000 = found_near g s.row d s.sound (sym c.in_ok-demand.ensures) m e in
+    let outside : balancing_fits (to_z w64 (of_z w64 m.price)) ≡ false = c.in_default.ensures in
     beyond m.price near outside
   where
     beyond : (z : ℤ) → nat_abs z ≤ 125000 → balancing_fits (to_z w64 (of_z w64 z)) ≡ false → ⊥
@@ -48,10 +48,10 @@ returns c =
     let s = c.args.sheet.now in
     let g = s.register.now in
     let os = offers_of (known g) (table g s.row) in
-    let d = c.in-ok-demand.demand in
-    let m = c.in-ok-marginal.marginal in
-    let asks = sym c.in-ok-demand.ensures in
-    let e = walked os _ c.lay-sheet-n.new.working c.lay-sheet-n.result d (Some m) c.lay-sheet-n.ensures.count c.lay-sheet-n.ensures.slots c.in-ok-marginal.ensures in
+    let d = c.in_ok-demand.demand in
+    let m = c.in_ok-marginal.marginal in
+    let asks = sym c.in_ok-demand.ensures in
+    let e = walked os _ c.lay_sheet-n.new.working c.lay_sheet-n.result d (Some m) c.lay_sheet-n.ensures.count c.lay_sheet-n.ensures.slots c.in_ok-marginal.ensures in
     let near : nat_abs m.price ≤ 125000 = found_near g s.row d s.sound asks m e in
     let back : to_z w64 (of_z w64 m.price) ≡ m.price = omega (arith, ints) in
     let price = found_price g s.row d s.sound asks m e in

@@ -14,23 +14,23 @@ unreachable-requires c =
     let s = c.args.sheet.now in
     let g = s.register.now in
     let os = offers_of (known g) (table g s.row) in
-    let d = c.in-ok-demand.demand in
-    let e = walked os c.args.working.now c.lay-sheet-n.new.working c.lay-sheet-n.result d None c.lay-sheet-n.ensures.count c.lay-sheet-n.ensures.slots c.in-default.ensures in
+    let d = c.in_ok-demand.demand in
+    let e = walked os c.args.working.now c.lay_sheet-n.new.working c.lay_sheet-n.result d None c.lay_sheet-n.ensures.count c.lay_sheet-n.ensures.slots c.in_default.ensures in
     let le : d ≤ offers (table g s.row) = omega (arith, c.offered.ensures, c.from.ensures, c.if-offered-from.false) in
-    found_some g s.row d s.sound (sym c.in-ok-demand.ensures) le e
+    found_some g s.row d s.sound (sym c.in_ok-demand.ensures) le e
 
 pub returns : goal.returns
 returns c =
     let s = c.args.sheet.now in
     let g = s.register.now in
     let os = offers_of (known g) (table g s.row) in
-    let d = c.in-ok-demand.demand in
+    let d = c.in_ok-demand.demand in
     let m = c.in-Some.marginal in
-    let asks = sym c.in-ok-demand.ensures in
-    let e = walked os c.args.working.now c.lay-sheet-n.new.working c.lay-sheet-n.result d (Some m) c.lay-sheet-n.ensures.count c.lay-sheet-n.ensures.slots c.in-Some.ensures in
+    let asks = sym c.in_ok-demand.ensures in
+    let e = walked os c.args.working.now c.lay_sheet-n.new.working c.lay_sheet-n.result d (Some m) c.lay_sheet-n.ensures.count c.lay_sheet-n.ensures.slots c.in-Some.ensures in
     let le : d ≤ offers (table g s.row) = omega (arith, c.offered.ensures, c.from.ensures, c.if-offered-from.false) in
     let near : nat_abs m.price ≤ 125000 = found_near g s.row d s.sound asks m e in
     let back : m.price ≡ to_z w64 (of_z w64 m.price) = omega (arith, ints) in (
       and_both (leb 96 (length c.args.working.now)) (reaches (table g s.row) s.row.demand) (le-leb 96 (length c.args.working.now) c.if-working-lt-RUNGS.false) (ap (reaches (table g s.row)) asks ∙ le-leb d (offers (table g s.row)) le),
-      (found_price g s.row d s.sound asks m e ∙ ap (λ (z : ℤ). Some (z, m.facility)) back, c.lay-sheet-n.ensures.slots),
+      (found_price g s.row d s.sound asks m e ∙ ap (λ (z : ℤ). Some (z, m.facility)) back, c.lay_sheet-n.ensures.slots),
     )

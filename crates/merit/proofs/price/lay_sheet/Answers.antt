@@ -4,8 +4,8 @@ use Rattle.merit.specs.Working.{factored, eight_at_most}
 use Rattle.merit.proofs.Sound.{register_factors, sheet_offering}
 use Rattle.merit.proofs.price.lay_sheet.Goals as goal
 
-pub lay-offers-requires : goal.lay-offers-requires
-lay-offers-requires c =
+pub lay_offers-requires : goal.lay_offers-requires
+lay_offers-requires c =
     let s = c.args.sheet.now in
     let g = s.register.now in
     record {

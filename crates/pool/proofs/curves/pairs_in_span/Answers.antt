@@ -16,20 +16,20 @@ loop-p-preserved c =
     let k = c.loop-p.position in
     let p = get_or ps i no_pair in
     let s = at_drop_more (λ xs. figures k (pair_figures z xs)) ps i no_pair c.loop-p-test.true in
-    let t = figures_two k (within_int z.low p.price z.high) (leb p.kw 1000000) (pair_figures z (drop (i + 1) ps)) c.in-ok-pair-in-span.ensures in
+    let t = figures_two k (within_int z.low p.price z.high) (leb p.kw 1000000) (pair_figures z (drop (i + 1) ps)) c.in_ok-pair_in_span.ensures in
     (omega arith, sym t ∙ sym s ∙ c.loop-p.invariant.1)
 
 pub returns : goal.returns
 returns c =
     sym (at_drop_all (λ xs. figures c.loop-p.position (pair_figures c.args.prices xs)) c.args.pairs.now c.loop-p.p-index c.loop-p-test.false) ∙ c.loop-p.invariant.1
 
-pub returns-in-err-pair-in-span : goal.returns-in-err-pair-in-span
-returns-in-err-pair-in-span c =
+pub returns-in_err-pair_in_span : goal.returns-in_err-pair_in_span
+returns-in_err-pair_in_span c =
     let z = c.args.prices in
     let ps = c.args.pairs.now in
     let i = c.loop-p.p-index in
     let k = c.loop-p.position in
     let p = get_or ps i no_pair in
     let s = at_drop_more (λ xs. figures k (pair_figures z xs)) ps i no_pair c.loop-p-test.true in
-    let e = err_from_is_err_and c.from-residual.result c.from-residual.ensures.1 in
-    rw (e.1, e.2) (figures_stop k (within_int z.low p.price z.high) (leb p.kw 1000000) (pair_figures z (drop (i + 1) ps)) _ c.in-err-pair-in-span.ensures ∙ sym s ∙ c.loop-p.invariant.1)
+    let e = err_from_is_err_and c.from_residual.result c.from_residual.ensures.1 in
+    rw (e.1, e.2) (figures_stop k (within_int z.low p.price z.high) (leb p.kw 1000000) (pair_figures z (drop (i + 1) ps)) _ c.in_err-pair_in_span.ensures ∙ sym s ∙ c.loop-p.invariant.1)

@@ -9,7 +9,7 @@ returns-then-kw-from c =
     let ps = c.args.pairs.now in
     let e = curve_made ps c.in-Some.curve c.requires.few c.requires.small c.in-Some.ensures in
     let held : total (curve ps) ≤ c.args.facility.capacity = omega (arith, made_total ps c.in-Some.curve e, c.kw.ensures.value) in
-    (grind (arith, nat_tests), ap (λ k. record { ramp_up = c.args.ramp-up; ramp_down = c.args.ramp-down; curve = k }) e)
+    (grind (arith, nat_tests), ap (λ k. record { ramp_up = c.args.ramp_up; ramp_down = c.args.ramp_down; curve = k }) e)
 
 pub returns-else-kw-from : goal.returns-else-kw-from
 returns-else-kw-from c =

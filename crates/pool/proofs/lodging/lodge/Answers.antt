@@ -16,36 +16,36 @@ use Rattle.pool.proofs.Passing.{unless_pass, figures_pass, not_both}
 use Rattle.pool.proofs.Laying.{pairs_total, submitted_sound}
 use Rattle.pool.proofs.lodging.lodge.Goals as goal
 
-pub submission-of-requires : goal.submission-of-requires
-submission-of-requires c =
-    let z = c.in-ok-prices.prices in
+pub submission_of-requires : goal.submission_of-requires
+submission_of-requires c =
+    let z = c.in_ok-prices.prices in
     let ps = c.args.pairs.now in
-    let few : length ps ≤ 8 = leb-true (length ps) 8 (unless_pass _ _ c.in-ok-not-too-many.ensures) in
-    let h = figures_pass 1 (lodge_figures z c.args.ramp-up c.args.ramp-down ps) c.in-ok-lodge-in-span.ensures in
-    let pairs = and_second (ramp_fits c.args.ramp-down) _ (and_second (ramp_fits c.args.ramp-up) _ h) in
+    let few : length ps ≤ 8 = leb-true (length ps) 8 (unless_pass _ _ c.in_ok-not_too_many.ensures) in
+    let h = figures_pass 1 (lodge_figures z c.args.ramp_up c.args.ramp_down ps) c.in_ok-lodge_in_span.ensures in
+    let pairs = and_second (ramp_fits c.args.ramp_down) _ (and_second (ramp_fits c.args.ramp_up) _ h) in
     record { few = few; small = omega (arith, pairs_total z ps pairs) }
 
 pub unreachable-requires : goal.unreachable-requires
 unreachable-requires c =
     let g = c.args.register.now in
-    let z = c.in-ok-prices.prices in
-    let i = c.in-ok-place.place in
+    let z = c.in_ok-prices.prices in
+    let i = c.in_ok-place.place in
     let ps = c.args.pairs.now in
-    let up = c.args.ramp-up in
-    let down = c.args.ramp-down in
-    let t = c.in-ok-submission.submission in
-    let sheet = c.in-ok-sheet.sheet in
-    let s = c.in-ok-sheet.ensures in
-    let few : length ps ≤ 8 = leb-true (length ps) 8 (unless_pass _ _ c.in-ok-not-too-many.ensures) in
-    let here : i < length (known g) = c.in-ok-place.ensures.1.1 in
+    let up = c.args.ramp_up in
+    let down = c.args.ramp_down in
+    let t = c.in_ok-submission.submission in
+    let sheet = c.in_ok-sheet.sheet in
+    let s = c.in_ok-sheet.ensures in
+    let few : length ps ≤ 8 = leb-true (length ps) 8 (unless_pass _ _ c.in_ok-not_too_many.ensures) in
+    let here : i < length (known g) = c.in_ok-place.ensures.1.1 in
     let f = get_or (known g) i no_facility in
     let at : get_or c.facilities.result.now i no_facility ≡ f = ap (λ xs. get_or xs i no_facility) c.facilities.ensures.value in
     let sound : facility_sound f ≡ true = all_at facility_sound (known g) i no_facility here g.spans in
-    let cap : total (curve ps) ≤ f.capacity = leb-true (total (curve ps)) f.capacity (ap (λ x. leb (total (curve ps)) x.capacity) (sym at) ∙ unless_pass _ _ (sym c.in-ok-submission.ensures.0)) in
-    let fits : submission_sound z f t ≡ true = ap (submission_sound z f) c.in-ok-submission.ensures.1 ∙ submitted_sound z f up down ps few c.in-ok-lodge-in-span.ensures sound cap in
-    let priced : g.prices ≡ Some z = c.in-ok-prices.ensures in
+    let cap : total (curve ps) ≤ f.capacity = leb-true (total (curve ps)) f.capacity (ap (λ x. leb (total (curve ps)) x.capacity) (sym at) ∙ unless_pass _ _ (sym c.in_ok-submission.ensures.0)) in
+    let fits : submission_sound z f t ≡ true = ap (submission_sound z f) c.in_ok-submission.ensures.1 ∙ submitted_sound z f up down ps few c.in_ok-lodge_in_span.ensures sound cap in
+    let priced : g.prices ≡ Some z = c.in_ok-prices.ensures in
     let of : submission_fits g i t ≡ true = ap (λ o. is_some o && if_some (λ y. submission_sound y f t) o) priced ∙ fits in
     let came : comes sheet.row event.Lodge ≡ true = ap (λ r. comes r event.Lodge) s.1.1.0 ∙ s.1.0 in
     let taken : takes_submission g sheet.row i t ≡ true = and_both (comes sheet.row event.Lodge) _ came (and_both (registered g i) _ (grind (arith, nat_tests)) of) in
     let same : takes_submission sheet.register.now sheet.row i t ≡ true = ap (λ (x : Register). takes_submission x sheet.row i t) s.1.1.1 ∙ taken in
-    not_both _ same c.in-default.ensures
+    not_both _ same c.in_default.ensures

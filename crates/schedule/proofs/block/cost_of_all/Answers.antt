@@ -9,8 +9,8 @@ cost-cost-requires c =
     let e = at_drop_more energies c.args.taken.now c.loop-t.t-index no_taken c.loop-t-test.true in
     record { near = All-get_or Priced c.args.taken.now c.loop-t.t-index no_taken c.loop-t-test.true c.requires.near; few = omega (arith, c.loop-t.invariant.2, c.requires.few) }
 
-pub overflow-add-sum : goal.overflow-add-sum
-overflow-add-sum c =
+pub overflow_add-sum : goal.overflow_add-sum
+overflow_add-sum c =
     let e = at_drop_more energies c.args.taken.now c.loop-t.t-index no_taken c.loop-t-test.true in
     record { fits = omega (arith, c.loop-t.invariant.1, c.requires.few, c.cost-cost.ensures.bound) }
 

@@ -17,17 +17,17 @@ loop-i-init c =
 pub take-t-requires : goal.take-t-requires
 take-t-requires c =
     let p : Block → Bool = λ b. lt_z b.price c.args.price.cents in
-    turn_room _ _ _ _ _ _ _ (kept_last p c.args.blocks.now c.loop-i.i no_block c.loop-i-test.true c.loop-i.auto.i) c.loop-i.invariant (sym c.is-below.ensures ∙ c.if-is-below.true)
+    turn_room _ _ _ _ _ _ _ (kept_last p c.args.blocks.now c.loop-i.i no_block c.loop-i-test.true c.loop-i.auto.i) c.loop-i.invariant (sym c.is_below.ensures ∙ c.if-is_below.true)
 
-pub loop-i-preserved-then-is-below : goal.loop-i-preserved-then-is-below
-loop-i-preserved-then-is-below c =
+pub loop-i-preserved-then-is_below : goal.loop-i-preserved-then-is_below
+loop-i-preserved-then-is_below c =
     let p : Block → Bool = λ b. lt_z b.price c.args.price.cents in
-    turn_takes _ _ _ _ _ _ _ (kept_last p c.args.blocks.now c.loop-i.i no_block c.loop-i-test.true c.loop-i.auto.i) c.loop-i.invariant (sym c.is-below.ensures ∙ c.if-is-below.true) c.take-t.result c.take-t.ensures
+    turn_takes _ _ _ _ _ _ _ (kept_last p c.args.blocks.now c.loop-i.i no_block c.loop-i-test.true c.loop-i.auto.i) c.loop-i.invariant (sym c.is_below.ensures ∙ c.if-is_below.true) c.take-t.result c.take-t.ensures
 
 pub loop-i-preserved : goal.loop-i-preserved
 loop-i-preserved c =
     let p : Block → Bool = λ b. lt_z b.price c.args.price.cents in
-    turn_skips _ _ _ _ _ _ _ (kept_last p c.args.blocks.now c.loop-i.i no_block c.loop-i-test.true c.loop-i.auto.i) c.loop-i.invariant (sym c.is-below.ensures ∙ c.if-is-below.false)
+    turn_skips _ _ _ _ _ _ _ (kept_last p c.args.blocks.now c.loop-i.i no_block c.loop-i-test.true c.loop-i.auto.i) c.loop-i.invariant (sym c.is_below.ensures ∙ c.if-is_below.false)
 
 pub returns : goal.returns
 returns c =

@@ -8,7 +8,7 @@ pub returns : goal.returns
 unfolding rounded
 returns c =
     let bits : ℤ → ℤ = λ z. to_z w64 (of_z w64 z) in
-    divided w64 c.div-euclid.result
+    divided w64 c.div_euclid.result
     (bits (bits (pos 2 *ℤ bits c.args.x) +ℤ to_z w64 c.args.m)) (bits (pos 2 *ℤ to_z w64 c.args.m))
     (pos 2 *ℤ c.args.x +ℤ pos c.args.m) (pos (2 * c.args.m))
-    record { sfits = c.div-euclid.type-inv } c.div-euclid.ensures (omega (arith, ints)) (omega (arith, ints))
+    record { sfits = c.div_euclid.type_inv } c.div_euclid.ensures (omega (arith, ints)) (omega (arith, ints))

@@ -10,8 +10,8 @@ pub returns : goal.returns
 unfolding rounded
 returns c =
     let z : ℤ = pos 2 *ℤ c.args.part +ℤ pos 600000000 in
-    let e : c.div-euclid.result ≡ int_div_euclid z (pos 1200000000) = c.div-euclid.ensures ∙ ap (λ y. int_div_euclid y (pos 1200000000)) (omega (arith, ints)) in
+    let e : c.div_euclid.result ≡ int_div_euclid z (pos 1200000000) = c.div_euclid.ensures ∙ ap (λ y. int_div_euclid y (pos 1200000000)) (omega (arith, ints)) in
     let low = euclid_low z 1200000000 100000000000 (omega arith) (omega (arith, ints)) in
     let high = euclid_high z 1200000000 100000000000 (omega arith) (omega (arith, ints)) in
-    let back : to_z w64 (of_z w64 (to_z w128 (of_z w128 c.div-euclid.result))) ≡ c.div-euclid.result = omega (arith, ints) in
+    let back : to_z w64 (of_z w64 (to_z w128 (of_z w128 c.div_euclid.result))) ≡ c.div_euclid.result = omega (arith, ints) in
     back ∙ e

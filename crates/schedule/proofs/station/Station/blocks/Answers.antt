@@ -12,7 +12,7 @@ returns-in-Upward c =
     let P = c.args.price.cents in
     let p : Block → Bool = λ b. lt_z P b.price in
     let n : c.lay-n.result - 0 ≡ c.lay-n.result = omega arith in
-    c.divide-above.ensures ∙ ap (λ k. divided c.in-Upward.x (filter p (take k c.lay-n.new.slots))) n ∙ ap (λ bs. divided c.in-Upward.x (filter p bs)) c.lay-n.ensures.front
+    c.divide_above.ensures ∙ ap (λ k. divided c.in-Upward.x (filter p (take k c.lay-n.new.slots))) n ∙ ap (λ bs. divided c.in-Upward.x (filter p bs)) c.lay-n.ensures.front
     ∙ ap (λ m. divided (energy_out m) (blocks_for o P m)) c.in-Upward.ensures
 
 pub returns-in-Downward : goal.returns-in-Downward
@@ -21,7 +21,7 @@ returns-in-Downward c =
     let P = c.args.price.cents in
     let p : Block → Bool = λ b. lt_z b.price P in
     let n : c.lay-n-in-Downward.result - 0 ≡ c.lay-n-in-Downward.result = omega arith in
-    c.divide-below.ensures ∙ ap (λ k. divided c.in-Downward.x (reverse (filter p (take k c.lay-n-in-Downward.new.slots)))) n
+    c.divide_below.ensures ∙ ap (λ k. divided c.in-Downward.x (reverse (filter p (take k c.lay-n-in-Downward.new.slots)))) n
     ∙ ap (λ bs. divided c.in-Downward.x (reverse (filter p bs))) c.lay-n-in-Downward.ensures.front ∙ ap (λ m. divided (energy_out m) (blocks_for o P m)) c.in-Downward.ensures
 
 pub returns-in-Neither : goal.returns-in-Neither

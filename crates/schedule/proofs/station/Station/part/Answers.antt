@@ -8,8 +8,8 @@ use Rattle.schedule.proofs.Dividing.{listed_divided, all_beside, energies_beside
 use Rattle.schedule.proofs.Fitting.{fitting, Near, blocks_of_near, counted_bound}
 use Rattle.schedule.proofs.station.Station.part.Goals as goal
 
-pub cost-of-all-requires : goal.cost-of-all-requires
-cost-of-all-requires c =
+pub cost_of_all-requires : goal.cost_of_all-requires
+cost_of_all-requires c =
     let s = c.args.self.now in
     let o = operation s in
     let P = c.args.price.cents in
@@ -27,4 +27,4 @@ returns c =
     let o = operation s in
     let P = c.args.price.cents in
     let e = c.listed.ensures ∙ listed_divided (energy_counted o P) (blocks_of o P) c.blocks-blocks.result c.blocks-blocks.ensures in
-    record { value = c.cost-of-all.ensures.value ∙ ap (costs s.factor.value P) e ∙ costs_beside s.factor.value P (blocks_of o P) (takes_of o P); bound = c.cost-of-all.ensures.bound }
+    record { value = c.cost_of_all.ensures.value ∙ ap (costs s.factor.value P) e ∙ costs_beside s.factor.value P (blocks_of o P) (takes_of o P); bound = c.cost_of_all.ensures.bound }
