@@ -1,5 +1,5 @@
 -- Figures as they are shown and compared.
-use Rattle.std.specs.Prelude.{ℕ, Bool, true, false, cond, ◌&&◌, ℤ, pos, neg_ℤ, Some, None, Option, int_le}
+use Rattle.std.specs.Prelude.{ℕ, Bool, true, false, ◌&&◌, ℤ, pos, neg_ℤ, Some, None, Option, int_le}
 use Rattle.schedule.specs.declared.direction.OutOfMerit.{OutOfMerit}
 use Rattle.schedule.specs.declared.direction.OutOfMerit.TheVariants.{Upward, Downward, Neither}
 
