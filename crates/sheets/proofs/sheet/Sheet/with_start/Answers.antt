@@ -1,4 +1,4 @@
-use Rattle.std.proofs.Common.{◌≡◌, ◌<◌, ◌≤◌, length, sym, ap, ◌∙◌, arith, length-set, leb-true}
+use Rattle.std.proofs.Common.{◌<◌, length, sym, ap, ◌∙◌, arith, length-set, leb-true}
 use Rattle.sheets.specs.Held.{known}
 use Rattle.sheets.specs.Sheets.{start_as, figures_at}
 use Rattle.sheets.proofs.Sheets.{sheet_start}

@@ -1,4 +1,3 @@
-use Rattle.std.proofs.Common.{◌≤◌, arith}
 use Rattle.sheets.proofs.sheet.acts.row_sound.Goals as goal
 
 pub stage_sound-requires : goal.stage_sound-requires
