@@ -14,27 +14,27 @@ pub trait Accounts {
     ghost view: { Self → View };
 
     // what is seen lies within the spans of a ledger
-    ghost sound: { (x : Self) → Sound (view x) };
+    ghost sound: { (x : Self) → Sound (Self.view x) };
 
     fn accounts(&self) -> usize
-        ensures { result ≡ (view self.now).count };
+        ensures { result ≡ (Self.view self.now).count };
 
     // How many posts there is room for.
     fn places(&self) -> u16
-        ensures { result ≡ (view self.now).places };
+        ensures { result ≡ (Self.view self.now).places };
 
     fn balance(&self, account: usize) -> Option<i64>
-        ensures { result ≡ told (view self.now) (view self.now).balance account };
+        ensures { result ≡ told (Self.view self.now) (Self.view self.now).balance account };
 
     fn lowest(&self, account: usize) -> Option<i64>
-        ensures { result ≡ told (view self.now) (view self.now).lowest account };
+        ensures { result ≡ told (Self.view self.now) (Self.view self.now).lowest account };
 
     fn highest(&self, account: usize) -> Option<i64>
-        ensures { result ≡ told (view self.now) (view self.now).highest account };
+        ensures { result ≡ told (Self.view self.now) (Self.view self.now).highest account };
 }
 
 // The posting half: a post is told by what is seen before and after it.
 pub trait Ledger: Accounts {
     fn post(&mut self, account: usize, cents: i64) -> Result<(), Reason>
-        ensures { Answered (view self.old) account cents result (view self.new) };
+        ensures { Answered (Self.view self.old) account cents result (Self.view self.new) };
 }

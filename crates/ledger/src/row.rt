@@ -27,7 +27,7 @@ fn bounds_refusal(balance: i64, cents: i64, lowest: i64, highest: i64) -> Option
 
 // Why a post would be refused, the first reason that holds.
 pub fn refusal_of<L: Accounts>(ledger: &L, account: usize, cents: i64) -> Option<Reason>
-    ensures { result ≡ refusal (view ledger.now) account cents }
+    ensures { result ≡ refusal (L.view ledger.now) account cents }
 {
     let (Some(balance), Some(lowest), Some(highest)) = (
         ledger.balance(account),
@@ -63,7 +63,7 @@ fn count_posts(amounts: &[i64; 12]) -> usize
 
 // Why an account's amount alone would be refused; zero is not posted.
 fn amount_refusal<L: Accounts>(ledger: &L, account: usize, cents: i64) -> Option<RowRefusal>
-    ensures { result ≡ amount_refusal (view ledger.now) account cents }
+    ensures { result ≡ amount_refusal (L.view ledger.now) account cents }
 {
     if !non_zero(cents) {
         return None;
@@ -78,7 +78,7 @@ fn amount_refusal<L: Accounts>(ledger: &L, account: usize, cents: i64) -> Option
 }
 
 fn first_refused<L: Accounts>(ledger: &L, amounts: &[i64; 12]) -> Option<RowRefusal>
-    ensures { result ≡ first_refused (view ledger.now) 0 amounts.now }
+    ensures { result ≡ first_refused (L.view ledger.now) 0 amounts.now }
 {
     for (i, x) in amounts.iter().enumerate() {
         if let Some(refusal) = amount_refusal(ledger, i, *x) {
@@ -90,7 +90,7 @@ fn first_refused<L: Accounts>(ledger: &L, amounts: &[i64; 12]) -> Option<RowRefu
 
 // How many posts the row takes, or why it would be refused.
 pub fn check_row<L: Accounts>(ledger: &L, amounts: &[i64; 12]) -> Result<usize, RowRefusal>
-    ensures { result ≡ row_answer (view ledger.now) amounts.now }
+    ensures { result ≡ row_answer (L.view ledger.now) amounts.now }
 {
     let n = count_posts(amounts);
     if usize::from(ledger.places()) < n {
@@ -107,8 +107,8 @@ pub fn check_row<L: Accounts>(ledger: &L, amounts: &[i64; 12]) -> Result<usize, 
 
 // Posts each amount that is not zero, in rising order of account.
 fn post_each<L: Ledger>(ledger: &mut L, amounts: &[i64; 12])
-    requires { row_refusal (L.Accounts.view ledger.old) amounts.now ≡ None }
-    ensures { Moved (L.Accounts.view ledger.old) (amount amounts.now) (posts amounts.now) (L.Accounts.view ledger.new) }
+    requires { row_refusal (L.view ledger.old) amounts.now ≡ None }
+    ensures { Moved (L.view ledger.old) (amount amounts.now) (posts amounts.now) (L.view ledger.new) }
 {
     for (i, x) in amounts.iter().enumerate() {
         if non_zero(*x) {
@@ -121,8 +121,8 @@ fn post_each<L: Ledger>(ledger: &mut L, amounts: &[i64; 12])
 
 // Posts the row, and answers how many posts that took. Amounts that sum to zero leave the sum of all balances as it was.
 pub fn post_row<L: Ledger>(ledger: &mut L, amounts: &[i64; 12]) -> Result<usize, RowRefusal>
-    ensures answered { RowAnswered (L.Accounts.view ledger.old) amounts.now result (L.Accounts.view ledger.new) }
-    ensures conserved { row_sum amounts.now ≡ pos 0 → ledger_sum (L.Accounts.view ledger.new) ≡ ledger_sum (L.Accounts.view ledger.old) }
+    ensures answered { RowAnswered (L.view ledger.old) amounts.now result (L.view ledger.new) }
+    ensures conserved { row_sum amounts.now ≡ pos 0 → ledger_sum (L.view ledger.new) ≡ ledger_sum (L.view ledger.old) }
 {
     let n = check_row(ledger, amounts)?;
     post_each(ledger, amounts);

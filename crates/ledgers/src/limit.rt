@@ -40,9 +40,9 @@ impl<L> CreditLimit<L> {
 }
 
 impl<L: Accounts> Accounts for CreditLimit<L> {
-    ghost view = { λ s. limited s.limits (L.Accounts.view s.below) };
+    ghost view = { λ s. limited s.limits (L.view s.below) };
 
-    ghost sound = { λ s. limited_sound s.limits (L.Accounts.view s.below) (L.Accounts.sound s.below) };
+    ghost sound = { λ s. limited_sound s.limits (L.view s.below) (L.sound s.below) };
 
     fn accounts(&self) -> usize {
         self.below.accounts()

@@ -1,5 +1,5 @@
 -- A blank row is a sheet.
-use Rattle.std.proofs.Common.{◌≡◌, ℕ, zero, suc, ◌≤◌, Bool, true, false, ◌&&◌, List, [], ◌∷◌, length, replicate, Some, None, refl, arith}
+use Rattle.std.proofs.Common.{◌≡◌, ℕ, zero, suc, ◌≤◌, true, List, [], ◌∷◌, length, replicate, Some, refl, arith}
 use Rattle.offers.proofs.Tests.{and_both}
 use Rattle.sheets.specs.declared.facility.Facility.{Facility}
 use Rattle.sheets.specs.declared.facility.Prices.{Prices}

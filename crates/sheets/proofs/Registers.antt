@@ -1,5 +1,5 @@
 -- What a register's invariant gives.
-use Rattle.std.proofs.Common.{◌≡◌, ℕ, ◌≤◌, length, take, arith}
+use Rattle.std.proofs.Common.{◌≡◌, length, arith}
 use Rattle.std.proofs.lemmas.List.{length-take-le}
 use Rattle.sheets.specs.declared.register.Register.{Register}
 use Rattle.sheets.specs.Held.{known}

@@ -1,5 +1,5 @@
 -- A sheet with one thing changed is a sheet.
-use Rattle.std.proofs.Common.{◌≡◌, ℕ, zero, suc, ◌+◌, ◌<◌, ◌≤◌, Bool, true, false, cond, ◌&&◌, leb, List, [], ◌∷◌, length, get_or, take, set, is_some, Some, None, Option, sym, refl, ap, ◌∙◌, arith, le→leb}
+use Rattle.std.proofs.Common.{◌≡◌, ℕ, zero, suc, ◌+◌, ◌<◌, ◌≤◌, Bool, true, false, cond, ◌&&◌, leb, List, [], ◌∷◌, length, get_or, take, set, is_some, Some, None, Option, refl, ap, ◌∙◌, arith}
 use Rattle.sheets.specs.declared.facility.Facility.{Facility}
 use Rattle.sheets.specs.declared.facility.Prices.{Prices}
 use Rattle.sheets.specs.declared.row.Figures.{Figures}

@@ -8,13 +8,12 @@ use Rattle.sheets.specs.declared.register.Register.{Register}
 use Rattle.sheets.specs.declared.row.Row.{Row}
 use Rattle.sheets.specs.declared.row.Figures.{Figures}
 use Rattle.sheets.specs.declared.row.Position.{Position}
-use Rattle.sheets.specs.declared.row.State.TheVariants.{Open, Closed, Settled}
 use Rattle.sheets.specs.declared.row.Event.{Event}
 use Rattle.sheets.specs.declared.row.Event.TheVariants.{Lodge, Figure, Demand, Close, Settle}
 use Rattle.sheets.specs.declared.sheet.Sheet.{Sheet}
 use Rattle.sheets.specs.Tests.{if_some}
 use Rattle.sheets.specs.Spans.{facility_sound, prices_sound}
-use Rattle.sheets.specs.Sheets.{submission_sound, start_fits, reading_fits, demand_fits, position_fits, reaches, complete, has_load, next, no_facility, figures_at}
+use Rattle.sheets.specs.Sheets.{submission_sound, start_fits, reading_fits, demand_fits, position_fits, reaches, complete, has_load, next, no_facility}
 use Rattle.sheets.specs.Held.{known}
 
 -- ---- a register

@@ -1,8 +1,8 @@
 -- The spans of what a register holds.
-use Rattle.std.specs.Prelude.{ℕ, Bool, ◌&&◌, List, [], ◌∷◌, ℤ, pos, negsuc, Option, int_le}
+use Rattle.std.specs.Prelude.{ℕ, Bool, ◌&&◌, List, [], ◌∷◌, ℤ, pos, negsuc, int_le}
 use Rattle.sheets.specs.declared.facility.Facility.{Facility}
 use Rattle.sheets.specs.declared.facility.Prices.{Prices}
-use Rattle.sheets.specs.Tests.{within, within_int, if_some, every}
+use Rattle.sheets.specs.Tests.{within, within_int, every}
 
 abbrev pub account_fits : ℕ → Bool
 account_fits a = within 1 a 11

@@ -9,7 +9,7 @@ returns-then-from-n g c =
     let v = g.L.Accounts.view c.args.ledger.now in
     let xs = c.args.amounts.now in
     let short : v.places < posts xs = omega arith in
-    ap (λ n. Err (record { reason = NoPlaces; place = n })) c.count-posts-n.ensures ∙ too_few_places v xs short
+    ap (λ n. Err (record { reason = NoPlaces; place = n })) c.count_posts-n.ensures ∙ too_few_places v xs short
 
 pub returns-in-Some : goal.returns-in-Some
 returns-in-Some g c =
@@ -23,4 +23,4 @@ returns-in-None g c =
     let v = g.L.Accounts.view c.args.ledger.now in
     let xs = c.args.amounts.now in
     let room : posts xs ≤ v.places = omega arith in
-    ap Ok c.count-posts-n.ensures ∙ places_enough v xs None room c.in-None.ensures
+    ap Ok c.count_posts-n.ensures ∙ places_enough v xs None room c.in-None.ensures

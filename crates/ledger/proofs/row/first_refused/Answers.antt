@@ -12,7 +12,7 @@ loop-i-preserved g c =
     let inside : c.loop-i.i < length c.args.amounts.now = omega arith in
     let step = at_drop_more (first_refused v i) xs i (pos 0) inside in
     let f : SFits w64 (get_or c.args.amounts.now c.loop-i.i (pos 0)) = search rules in
-    let passed : None ≡ amount_refusal v i (amount xs i) = simp to_z-of_z at c.in-default.ensures in
+    let passed : None ≡ amount_refusal v i (amount xs i) = simp to_z-of_z at c.in_default.ensures in
     ap (λ o. or_else o (first_refused v (i + 1) (drop (i + 1) xs))) passed ∙ sym step ∙ c.loop-i.invariant
 
 pub returns-in-Some : goal.returns-in-Some

@@ -5,7 +5,7 @@ use Rattle.ledger.proofs.Tested.{taken_or_refused}
 use Rattle.ledger.proofs.Rows.{not_posted_zero, account_there}
 use Rattle.ledger.proofs.Moves.{up_to, up_to_all, moved_none, moved_skip, moved_post, moved_as, still_taken}
 use Rattle.ledger.proofs.row.post_each.Goals as goal
-use Rattle.ledger.proofs.row.post_each.Goals.{then-non-zero+in-Ok, else-non-zero}
+use Rattle.ledger.proofs.row.post_each.Goals.{then-non_zero+in-Ok, else-non_zero}
 
 pub loop-i-init : goal.loop-i-init
 loop-i-init g c = moved_none (g.L.Accounts.view c.args.ledger.now) c.args.amounts.now
@@ -18,9 +18,9 @@ unreachable-requires g c =
     let i = c.loop-i.i in
     let inside : c.loop-i.i < length c.args.amounts.now = omega arith in
     let f : SFits w64 (get_or c.args.amounts.now c.loop-i.i (pos 0)) = search rules in
-    let some : non_zero (amount xs i) ≡ _ = sym (simp to_z-of_z at c.non-zero.ensures) ∙ c.if-non-zero.true in
-    let refused = (simp to_z-of_z at c.in-default.ensures).0 in
-    taken_or_refused _ c.in-default.field-0 (still_taken v m xs i c.requires inside some c.loop-i.invariant) refused
+    let some : non_zero (amount xs i) ≡ _ = sym (simp to_z-of_z at c.non_zero.ensures) ∙ c.if-non_zero.true in
+    let refused = (simp to_z-of_z at c.in_default.ensures).0 in
+    taken_or_refused _ c.in_default.field-0 (still_taken v m xs i c.requires inside some c.loop-i.invariant) refused
 
 pub loop-i-preserved : goal.loop-i-preserved
 loop-i-preserved g c =
@@ -30,14 +30,14 @@ loop-i-preserved g c =
     let i = c.loop-i.i in
     let inside : c.loop-i.i < length c.args.amounts.now = omega arith in
     let f : SFits w64 (get_or c.args.amounts.now c.loop-i.i (pos 0)) = search rules in
-    let tested : c.non-zero.result ≡ non_zero (amount xs i) = simp to_z-of_z at c.non-zero.ensures in
-    elim c.if-non-zero.branch [
-      | then-non-zero+in-Ok w ↦
-          let some = sym tested ∙ w.if-non-zero.true in
+    let tested : c.non_zero.result ≡ non_zero (amount xs i) = simp to_z-of_z at c.non_zero.ensures in
+    elim c.if-non_zero.branch [
+      | then-non_zero+in-Ok w ↦
+          let some = sym tested ∙ w.if-non_zero.true in
           let here = account_there v xs c.requires i inside some in
           let h = w.ledger-is in
           rw h (moved_post v m xs i inside c.loop-i.invariant (g.L.Accounts.view w.post.new.self) some here (simp to_z-of_z at w.in-Ok.ensures).1)
-      | else-non-zero w ↦ rw w.ledger-is (moved_skip v m xs i inside c.loop-i.invariant (not_posted_zero (amount xs i) (sym tested ∙ w.if-non-zero.false)))
+      | else-non_zero w ↦ rw w.ledger-is (moved_skip v m xs i inside c.loop-i.invariant (not_posted_zero (amount xs i) (sym tested ∙ w.if-non_zero.false)))
     ]
 
 pub returns : goal.returns

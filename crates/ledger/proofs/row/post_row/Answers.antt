@@ -7,9 +7,9 @@ use Rattle.ledger.proofs.row.post_row.Goals as goal
 pub returns : goal.returns
 returns g c =
     let v = g.L.Accounts.view c.args.ledger.now in
-    let w = g.L.Accounts.view c.post-each.new.ledger in
+    let w = g.L.Accounts.view c.post_each.new.ledger in
     let xs = c.args.amounts.now in
-    let n = c.in-ok-n.n in
-    let checked = row_taken v xs n c.in-ok-n.ensures in
-    let done : RowAnswered v xs (Ok n) w = (checked.0, checked.1, c.post-each.ensures) in
+    let n = c.in_ok-n.n in
+    let checked = row_taken v xs n c.in_ok-n.ensures in
+    let done : RowAnswered v xs (Ok n) w = (checked.0, checked.1, c.post_each.ensures) in
     record { answered = done; conserved = row_conserves v xs (Ok n) w done }

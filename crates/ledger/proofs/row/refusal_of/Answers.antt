@@ -13,4 +13,4 @@ returns g c =
     let h : SFits w64 told.highest = search rules in
     let k : SFits w64 c.args.cents = c.ranges.cents in
     let room = ne_eqb v.places 0 (λ (e : v.places ≡ 0). omega arith) in
-    simp to_z-of_z at c.bounds-refusal.ensures ∙ bounds_decide v c.args.account c.args.cents told.balance told.lowest told.highest told.ensures told.ensures' told.ensures'' room
+    simp to_z-of_z at c.bounds_refusal.ensures ∙ bounds_decide v c.args.account c.args.cents told.balance told.lowest told.highest told.ensures told.ensures' told.ensures'' room

@@ -13,5 +13,5 @@ returns g c =
     let a = c.args.account in
     let x = c.args.cents in
     let k : SFits w64 x = c.ranges.cents in
-    let ok : refusal (limited ls v) a x ≡ None = sym (simp to_z-of_z at c.in-default.ensures) in
+    let ok : refusal (limited ls v) a x ≡ None = sym (simp to_z-of_z at c.in_default.ensures) in
     answered_below ls v a x ok c.post.result w (simp to_z-of_z at c.post.ensures)

@@ -6,8 +6,8 @@ use Rattle.ledgers.specs.Steps.{steps_view, steps_sound}
 use Rattle.ledgers.proofs.Spans.{span_set, steps_posted}
 use Rattle.ledgers.proofs.tests.steps.StepsLedger.post.Goals as goal
 
-pub invariant-of-self : goal.invariant-of-self
-invariant-of-self c =
+pub invariant_of-self : goal.invariant_of-self
+invariant_of-self c =
     let s = c.args.self.now in
     let zs = s.balances in
     let a = c.args.account in
@@ -15,11 +15,11 @@ invariant-of-self c =
     let inside : a < length zs = search rules in
     let f : SFits w64 (get_or zs a (pos 0)) = search rules in
     let k : SFits w64 x = c.ranges.cents in
-    let ok : refusal (steps_view zs s.left) a x ≡ None = sym (simp to_z-of_z at c.in-default.ensures) in
+    let ok : refusal (steps_view zs s.left) a x ≡ None = sym (simp to_z-of_z at c.in_default.ensures) in
     let span = taken_in_span (steps_view zs s.left) a x (steps_sound zs s.left s.spans s.few) ok in
     let m : SFits w64 (get_or zs a (pos 0) +ℤ x) = span_fits (get_or zs a (pos 0) +ℤ x) span in
     let few : s.left - 1 ≤ 65535 = omega (arith, s.few) in
-    (span_set zs a _ inside s.spans (simp to_z-of_z span), (few, tt))
+    record { spans = span_set zs a _ inside s.spans (simp to_z-of_z span); few = few }
 
 pub returns : goal.returns
 returns c =
@@ -30,7 +30,7 @@ returns c =
     let inside : a < length zs = search rules in
     let f : SFits w64 (get_or zs a (pos 0)) = search rules in
     let k : SFits w64 x = c.ranges.cents in
-    let ok : refusal (steps_view zs s.left) a x ≡ None = sym (simp to_z-of_z at c.in-default.ensures) in
+    let ok : refusal (steps_view zs s.left) a x ≡ None = sym (simp to_z-of_z at c.in_default.ensures) in
     let span = taken_in_span (steps_view zs s.left) a x (steps_sound zs s.left s.spans s.few) ok in
     let m : SFits w64 (get_or zs a (pos 0) +ℤ x) = span_fits (get_or zs a (pos 0) +ℤ x) span in
     (ok, simp to_z-of_z (steps_posted zs s.left a x inside (taken_because (steps_view zs s.left) a x ok).1))
