@@ -1,4 +1,5 @@
 // Computes the worked figures through the library's calls, and compares each with what it should be.
+#![tactic(auto)]
 use std::io;
 
 mod cases;

@@ -1,4 +1,5 @@
 // Ledgers: the account table, and the credit limit that lies over any ledger.
+#![tactic(auto)]
 pub mod limit;
 pub mod table;
 #[cfg(test)]

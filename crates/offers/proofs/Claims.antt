@@ -1,11 +1,11 @@
 -- What holds of every curve: its form, its offer, and that the offer fixes it.
-use Rattle.std.proofs.Common.{◌≡◌, ℕ, ◌+◌, ◌<◌, ◌≤◌, Bool, true, false, cond, ◌&&◌, ltb, List, [], ◌∷◌, ℤ, sym, refl, ap, ◌∙◌, subst, arith}
-use lib.Signed.{le_z, lt_z}
+use Rattle.std.proofs.Common.{◌≡◌, ◌<◌, Bool, true, false, List, [], ◌∷◌, ℤ, sym, refl, ap, ◌∙◌, arith}
+use lib.Signed.{lt_z}
 use Rattle.std.proofs.lemmas.Bool.Decides.{nat_tests}
 use Rattle.std.proofs.lemmas.Int.{ints}
 use Rattle.offers.specs.declared.pair.Pair.{Pair}
 use Rattle.offers.specs.Tests.{all}
-use Rattle.offers.specs.Curves.{cheaper, some_kw, same_price, joined, summed, curve, offered, kw_at, in_form, rises, same_pair, same_pairs}
+use Rattle.offers.specs.Curves.{cheaper, some_kw, same_price, joined, curve, offered, kw_at, in_form, rises}
 use Rattle.offers.specs.Claims.{InForm, SameOffer, OneCurve, Splitting, Emptying, Reordering, OwnCurve, SamePairs}
 use Rattle.offers.proofs.Tests.{and_first, and_second, and_both}
 use Rattle.offers.proofs.Merging.{prices_equal}

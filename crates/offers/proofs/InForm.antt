@@ -1,9 +1,9 @@
 -- A curve is in form.
-use Rattle.std.proofs.Common.{◌≡◌, ℕ, zero, suc, ◌+◌, ◌<◌, ◌≤◌, Bool, true, false, cond, ◌&&◌, ltb, leb, List, [], ◌∷◌, ◌++◌, length, ℤ, sym, refl, ap, ◌∙◌, subst, arith}
-use lib.Signed.{le_z, lt_z}
+use Rattle.std.proofs.Common.{◌≡◌, ℕ, ◌≤◌, Bool, true, false, cond, ◌&&◌, ltb, leb, List, [], ◌∷◌, length, refl, ap, ◌∙◌, arith}
+use lib.Signed.{lt_z}
 use Rattle.std.proofs.lemmas.Int.{ints}
 use Rattle.std.proofs.lemmas.Bool.Decides.{nat_tests}
-use Rattle.ladder.specs.Orders.{seated, ranked, InOrder, Heads, Upto, lower_int, Total}
+use Rattle.ladder.specs.Orders.{seated, ranked, InOrder, Upto}
 use Rattle.ladder.proofs.Sorting.{ranked_in_order, length_ranked}
 use Rattle.ladder.proofs.Totals.{lower_int_total}
 use Rattle.offers.specs.declared.pair.Pair.{Pair}

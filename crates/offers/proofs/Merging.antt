@@ -1,9 +1,8 @@
 -- Merging equal prices, pair by pair.
-use Rattle.std.proofs.Common.{◌≡◌, ℕ, zero, suc, ◌+◌, ◌<◌, ◌≤◌, Bool, true, false, cond, ◌&&◌, eqb, List, [], ◌∷◌, ◌++◌, length, get_or, take, drop, set, ℤ, sym, refl, ap, ◌∙◌, subst, append_assoc, add_assoc, arith, length-append, length-set, eqb-true}
+use Rattle.std.proofs.Common.{◌≡◌, ℕ, ◌+◌, ◌<◌, ◌≤◌, Bool, true, false, cond, ◌&&◌, eqb, List, [], ◌∷◌, ◌++◌, length, get_or, take, drop, set, ℤ, sym, refl, ap, ◌∙◌, subst, append_assoc, add_assoc, arith, length-set, eqb-true}
 use lib.Signed.{le_z}
-use Rattle.std.proofs.lemmas.List.{at_drop_more, at_drop_all, drop_more, take_more, take_more_set, take-set, take-set-le, drop-set-lt, get_or-set_same, take-append-drop, length-take-le, length_push, drop-drop}
+use Rattle.std.proofs.lemmas.List.{at_drop_more, at_drop_all, drop_more, take_more, take-set, drop-set-lt, get_or-set_same, take-append-drop, length-take-le, drop-drop}
 use Rattle.std.proofs.lemmas.Int.{ints}
-use Rattle.std.proofs.lemmas.Bool.Decides.{nat_tests}
 use Rattle.offers.specs.declared.pair.Pair.{Pair}
 use Rattle.offers.specs.Curves.{same_price, joined, glue, merged, total, no_pair}
 

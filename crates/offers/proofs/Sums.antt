@@ -1,14 +1,13 @@
 -- A figure that joins and empties as kW do sums to the same over pairs and over their curve.
-use Rattle.std.proofs.Common.{◌≡◌, ℕ, ◌+◌, ◌≤◌, Bool, true, false, cond, ◌&&◌, List, [], ◌∷◌, ℤ, sum_by, sym, refl, ap, ◌∙◌, arith}
+use Rattle.std.proofs.Common.{◌≡◌, ℕ, ◌+◌, Bool, true, false, cond, ◌&&◌, List, [], ◌∷◌, ℤ, sum_by, sym, refl, ap, ◌∙◌, arith}
 use lib.Signed.{le_z}
 use Rattle.std.proofs.lemmas.Bool.Decides.{nat_tests}
-use Rattle.std.proofs.lemmas.Int.{ints}
 use Rattle.std.proofs.lemmas.List.Sums.{sum_by-cons}
 use Rattle.std.proofs.lemmas.List.Sorted.{sum_by-IsPermutation}
 use Rattle.std.specs.List.Sorted.{IsPermutation}
 use Rattle.ladder.specs.Orders.{seated, ranked}
 use Rattle.offers.specs.declared.pair.Pair.{Pair}
-use Rattle.offers.specs.Curves.{cheaper, offering, some_kw, same_price, joined, glue, merged, summed, curve, offered}
+use Rattle.offers.specs.Curves.{cheaper, offering, same_price, joined, glue, merged, summed, curve, offered}
 use Rattle.offers.proofs.Merging.{prices_equal}
 
 module _ (f : Pair → ℕ) where

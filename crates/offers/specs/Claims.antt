@@ -1,5 +1,5 @@
 -- What is claimed of curves, for every list of pairs.
-use Rattle.std.specs.Prelude.{◌≡◌, ℕ, true, List, ◌∷◌, ℤ}
+use Rattle.std.specs.Prelude.{◌≡◌, true, List, ◌∷◌, ℤ}
 use Rattle.std.specs.List.Sorted.{IsPermutation}
 use Rattle.offers.specs.Curves.{kw_at, joined, curve, in_form, same_pairs}
 use Rattle.offers.specs.declared.pair.Pair.{Pair}

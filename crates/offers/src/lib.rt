@@ -1,4 +1,6 @@
 // What a station offers: pairs of price and kW, the curve that they make, a submission.
+#![tactic(auto)]
+
 pub mod curve;
 pub mod laws;
 pub mod pair;

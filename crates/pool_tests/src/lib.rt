@@ -1,4 +1,5 @@
 // Every refusal of every call, with its place; and rows handed in broken in each way.
+#![tactic(auto)]
 use offers::curve::Curve;
 use offers::pair::Pair;
 use offers::submission::Submission;

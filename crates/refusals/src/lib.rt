@@ -1,4 +1,5 @@
 // Why a call is refused: one case for each line of the table of refusals, with its place.
+#![tactic(auto)]
 ghost use Rattle.std.specs.Prelude.{◌≡◌};
 ghost use Rattle.refusals.specs.Table.{refusal_number, refusal_place, refusal_reason};
 

@@ -1,4 +1,5 @@
 // Settles a day: a day file on standard input, an answer for each call and the balances on standard output.
+#![tactic(auto)]
 mod calls;
 mod day;
 mod lines;

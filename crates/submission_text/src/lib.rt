@@ -1,4 +1,5 @@
 // The text of a submission: reading it, and its written form.
+#![tactic(auto)]
 pub mod answer;
 pub mod file;
 pub mod read;

@@ -1,7 +1,7 @@
 // Reading the text of a submission, line by line.
 ghost use Rattle.std.specs.Prelude.{◌≡◌, ◌≤◌, [], length, IfOk};
 ghost use Rattle.std.specs.Result.{result_map_both as mapped_both};
-ghost use Rattle.offers.specs.Curves.{total, curve as curve-pairs, stored};
+ghost use Rattle.offers.specs.Curves.{total, curve as curve_pairs, stored};
 ghost use Rattle.submission_text.specs.Read.{pair_of, pair_line_of, pairs_of, curved, head_of, file_of, read_of};
 ghost use Rattle.submission_text.specs.Claims.{ReadsLines};
 
@@ -42,7 +42,7 @@ fn pair_line(s: &[u8], room: u32) -> Result<(Pair, &[u8]), LineFault>
 // The curve of pairs that were read.
 fn curve_of(pairs: &[Pair]) -> Curve
     requires { (length pairs.now ≤ 8) × (total pairs.now ≤ 1000000) }
-    ensures { result ≡ stored (curve-pairs pairs.now) }
+    ensures { result ≡ stored (curve_pairs pairs.now) }
 {
     match Curve::of(pairs) {
         Some(curve) => curve,
