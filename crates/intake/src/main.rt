@@ -1,5 +1,6 @@
 // The intake: a submission file on standard input, its written form or the refusal on standard output.
 #![tactic(auto)]
+
 ghost use Rattle.std.specs.Prelude.{◌≤◌, length, IfOk};
 
 use std::io;

@@ -1,5 +1,5 @@
 -- The claims of reading and writing.
-use Rattle.std.proofs.Common.{◌≡◌, ℕ, ◌≤◌, Bool, true, ◌&&◌, List, [], ◌∷◌, length, drop, replicate, ℤ, pos, negsuc, ◌≤ℤ◌, Ok, Err, Result, sym, refl, ap, ◌∙◌, subst, arith}
+use Rattle.std.proofs.Common.{◌≡◌, ℕ, Bool, true, ◌&&◌, List, [], ◌∷◌, length, drop, replicate, pos, negsuc, Ok, sym, refl, ap, ◌∙◌, arith}
 use lib.Signed.{le_z}
 use Rattle.std.proofs.lemmas.List.{take_at}
 use Rattle.std.proofs.lemmas.Int.{ints}
@@ -12,10 +12,9 @@ use Rattle.offers.proofs.Tests.{and_first, and_second, and_both}
 use Rattle.offers.proofs.Sums.{summed_curve}
 use Rattle.offers.proofs.InForm.{length_curve, all_offering, all_curve}
 use Rattle.offers.proofs.Claims.{curve_in_form, own_curve}
-use Rattle.submission_text.specs.declared.file.SubmissionFile.{SubmissionFile}
 use Rattle.submission_text.specs.Read.{file_of, read_of}
 use Rattle.submission_text.specs.Write.{head, pairs, file_text, written_form}
-use Rattle.submission_text.specs.Claims.{HeadFits, PricesFit, PairsFit, Told, ReadsLines, Agree, ReadsBack, OneText, Again, Settled, Alike}
+use Rattle.submission_text.specs.Claims.{PricesFit, PairsFit, ReadsLines, ReadsBack, OneText, Again, Settled, Alike}
 use Rattle.submission_text.proofs.Trips.{text_read}
 use Rattle.submission_text.proofs.Only.{read_told}
 

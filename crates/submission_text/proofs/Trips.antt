@@ -1,19 +1,16 @@
 -- Lines of figures and pairs in their spans are read as these.
-use Rattle.std.proofs.Common.{◌≡◌, ℕ, zero, suc, ◌+◌, ◌-◌, ◌^◌, ◌<◌, ◌≤◌, Bool, true, false, cond, eqb, List, [], ◌∷◌, ◌++◌, length, ℤ, pos, negsuc, ◌≤ℤ◌, Ok, Err, codes, decimal, Result, sym, refl, ap, ◌∙◌, subst, arith, w64, SFits, eqb-true}
-use lib.Signed.{mag}
+use Rattle.std.proofs.Common.{◌≡◌, ℕ, ◌+◌, ◌-◌, ◌^◌, ◌<◌, ◌≤◌, Bool, true, false, eqb, List, [], ◌∷◌, ◌++◌, length, pos, negsuc, ◌≤ℤ◌, Ok, Err, codes, decimal, sym, refl, ap, ◌∙◌, arith, w64, SFits, eqb-true}
 use Rattle.std.proofs.lemmas.List.{append_assoc, append-nil, nil_from_length}
 use Rattle.std.specs.Fmt.{signed_decimal}
 use Rattle.text.specs.declared.line.LineFault.TheVariants.{Extra}
-use Rattle.text.specs.declared.refusal.Refusal.{Refusal}
-use Rattle.text.specs.Numbers.{natural_of, signed_of}
-use Rattle.text.specs.Lines.{before, after, line_of, natural_line_of, placed, line_text}
+use Rattle.text.specs.Numbers.{signed_of}
+use Rattle.text.specs.Lines.{after, natural_line_of, placed, line_text}
 use Rattle.text.proofs.Canonical.{natural_back, signed_back, in_bits}
-use Rattle.text.proofs.Lined.{Free, before_at, after_at, free_append, no_feed, no_colon, decimal_free, signed_free, Plain, line_back, natural_line_back}
+use Rattle.text.proofs.Lined.{before_at, after_at, free_append, no_feed, no_colon, decimal_free, signed_free, Plain, line_back, natural_line_back}
 use Rattle.offers.specs.declared.pair.Pair.{Pair}
 use Rattle.offers.specs.declared.curve.Curve.{Curve}
 use Rattle.offers.specs.Curves.{total, curve, stored}
 use Rattle.submission_text.specs.declared.file.Head.{Head}
-use Rattle.submission_text.specs.declared.file.SubmissionFile.{SubmissionFile}
 use Rattle.submission_text.specs.Read.{and_then, priced, rated, pair_of, pair_line_of, pairs_from, pairs_of, curved, closed, head_of, file_of, read_of}
 use Rattle.submission_text.specs.Write.{pair_text, pairs_text, head_text, file_text}
 use Rattle.submission_text.specs.Claims.{HeadFits, PricesFit, PairsFit}

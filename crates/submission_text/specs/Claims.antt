@@ -1,5 +1,5 @@
 -- What is claimed of reading and writing, for every text and every file.
-use Rattle.std.specs.Prelude.{◌≡◌, ℕ, ◌≤◌, true, List, [], ◌∷◌, length, ℤ, pos, negsuc, ◌≤ℤ◌, Ok, Err, Result}
+use Rattle.std.specs.Prelude.{◌≡◌, ℕ, ◌≤◌, true, List, [], ◌∷◌, length, pos, negsuc, ◌≤ℤ◌, Ok, Result}
 use Rattle.text.specs.declared.refusal.Refusal.{Refusal}
 use Rattle.offers.specs.declared.pair.Pair.{Pair}
 use Rattle.offers.specs.Curves.{total, curve, stored, in_form}

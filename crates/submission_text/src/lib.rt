@@ -1,5 +1,6 @@
 // The text of a submission: reading it, and its written form.
 #![tactic(auto)]
+
 pub mod answer;
 pub mod file;
 pub mod read;

@@ -1,5 +1,6 @@
 // Texts at the edges of the rules, and what is made of them.
 #![tactic(auto)]
+
 use offers::curve::Curve;
 use offers::pair::Pair;
 use offers::submission::Submission;

@@ -1,11 +1,7 @@
 -- The loop that looks for the byte to cut at.
-use Rattle.std.proofs.Common.{◌≡◌, ℕ, ◌+◌, ◌-◌, ◌<◌, ◌≤◌, Bool, true, false, cond, eqb, List, [], ◌∷◌, ◌++◌, length, get_or, take, drop, Some, None, Decides, Option, sym, refl, ap, ◌∙◌, subst, arith}
+use Rattle.std.proofs.Common.{◌≡◌, ℕ, ◌+◌, ◌-◌, ◌<◌, ◌≤◌, eqb, List, [], ◌∷◌, ◌++◌, length, get_or, take, drop, Some, None, Option, sym, ap, ◌∙◌, arith}
 use Rattle.std.proofs.lemmas.List.{at_drop_more, at_drop_all, take_rest, take_more, take_all, append_assoc, append-nil}
 use Rattle.std.proofs.lemmas.Bool.{cond-true, cond-false, eq-eqb, ne_eqb}
-use Rattle.std.proofs.lemmas.Slice.Eq.{slice_eq-Decides, bytes_eq-Decides}
-use Rattle.std.proofs.lemmas.Bool.Decides.{same_from_decides, Decides-eqb}
-use Rattle.std.specs.Cmp.Lexicographic.{Matches}
-use Rattle.std.specs.Str.{bytes_eq}
 use Rattle.text.specs.Lines.{before, after}
 
 -- i bytes of s are passed, none of them b
@@ -40,9 +36,3 @@ module _ (b : ℕ) (s : List ℕ) (i : ℕ) (p : Passed b s i) where
     sym (take_all i s le) ∙ sym (append-nil (take i s)) ∙ ap (λ l. take i s ++ l) (sym (at_drop_all (before b) s i le)) ∙ p.0,
     sym (at_drop_all (after b) s i le) ∙ p.1,
   )
-
--- the code's `==` on the key is the definition's
-pub keyed_test : (name key line : List ℕ) (r : Bool) → Matches (λ (a b : ℕ) (t : Bool). Decides t (a ≡ b)) name key r
-    → name ≡ before 61 line → bytes_eq (before 61 line) key ≡ r
-keyed_test name key line r m e =
-    ap (λ n. bytes_eq n key) (sym e) ∙ same_from_decides (bytes_eq name key) r (bytes_eq-Decides name key) (slice_eq-Decides Decides-eqb name key r m)

@@ -1,5 +1,5 @@
 -- The arms of the number readers: what is read with a cap is what the definition reads.
-use Rattle.std.proofs.Common.{◌≡◌, ℕ, ◌+◌, ◌-◌, ◌*◌, ◌^◌, ◌<◌, ◌≤◌, min, Bool, true, false, cond, ◌&&◌, eqb, leb, List, [], ◌∷◌, length, get_or, take, drop, ℤ, pos, ◌-ℤ◌, neg_ℤ, Some, None, Ok, Err, Option, Result, sym, refl, ap, ◌∙◌, inl, inr, ⊎_elim, arith, w64, SFits, to_z, of_z}
+use Rattle.std.proofs.Common.{◌≡◌, ℕ, ◌-◌, ◌^◌, ◌<◌, ◌≤◌, min, true, false, ◌&&◌, eqb, leb, List, [], ◌∷◌, length, get_or, take, drop, ℤ, pos, ◌-ℤ◌, Some, None, Ok, Err, Option, Result, sym, refl, ap, ◌∙◌, ⊎_elim, arith, w64, SFits, to_z, of_z}
 use lib.Signed.{le_z}
 use mir.Syntax.{w128}
 use Rattle.std.proofs.lemmas.List.{take_rest}
@@ -8,7 +8,7 @@ use Rattle.std.proofs.lemmas.Bool.Decides.{nat_tests}
 use Rattle.std.proofs.lemmas.Bool.{cond-true, cond-false, eq-eqb, ne_eqb, cases_eq, and_right, and_left, cases_lt}
 use Rattle.std.specs.Option.{option_map}
 use Rattle.text.specs.declared.number.NumberFault.{NumberFault}
-use Rattle.text.specs.declared.number.NumberFault.TheVariants.{Form, Span}
+use Rattle.text.specs.declared.number.NumberFault.TheVariants.{Span}
 use Rattle.text.specs.Numbers.{onward, positive, alone, plain, minus, with_sign, in_span, in_signed_span, natural_of, signed_of}
 use Rattle.text.proofs.Decimal.{capped}
 

@@ -6,4 +6,4 @@ use Rattle.submission_text.proofs.read.read.Goals as goal
 pub returns : goal.returns
 returns c =
     let s = c.args.text.now in
-    record { value = c.read-lines.ensures; lines = subst (ReadsLines s) (sym c.read-lines.ensures) (reads_lines s) }
+    record { value = c.read_lines.ensures; lines = subst (ReadsLines s) (sym c.read_lines.ensures) (reads_lines s) }

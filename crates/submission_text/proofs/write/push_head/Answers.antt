@@ -12,7 +12,7 @@ returns c =
     let u : x.submission.ramp_up < 2 ^ 32 = search rules in
     let d : x.submission.ramp_down < 2 ^ 32 = search rules in
     record {
-      after = headed (held c.args.draft.now) (held c.push-line.new.self) (held c.push-line-2.new.self) (held c.push-line-3.new.self) (held c.push-line-4.new.self)
-          (head x) c.push-line.ensures c.push-line-2.ensures c.push-line-3.ensures c.push-line-4.ensures;
+      after = headed (held c.args.draft.now) (held c.push_line.new.self) (held c.push_line-2.new.self) (held c.push_line-3.new.self) (held c.push_line-4.new.self)
+          (head x) c.push_line.ensures c.push_line-2.ensures c.push_line-3.ensures c.push_line-4.ensures;
       short = length_head (head x) a b u d;
     }

@@ -9,7 +9,7 @@ returns c =
     let f : SFits w32 p.price = search rules in
     let k : p.kw < 2 ^ 32 = search rules in
     record {
-      after = paired (held c.args.draft.now) (held c.push.new.self) (held c.push-signed.new.self) (held c.push-2.new.self) (held c.push-natural.new.self) (held c.push-3.new.self)
-          p c.from.result f c.from.ensures c.push.ensures c.push-signed.ensures c.push-2.ensures c.push-natural.ensures c.push-3.ensures;
+      after = paired (held c.args.draft.now) (held c.push.new.self) (held c.push_signed.new.self) (held c.push-2.new.self) (held c.push_natural.new.self) (held c.push-3.new.self)
+          p c.from.result f c.from.ensures c.push.ensures c.push_signed.ensures c.push-2.ensures c.push_natural.ensures c.push-3.ensures;
       short = length_pair p f k;
     }

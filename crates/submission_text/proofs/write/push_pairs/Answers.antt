@@ -10,8 +10,8 @@ loop-p-init c = laid_none (held c.args.draft.now) c.args.pairs.now (held_short c
 
 pub loop-p-preserved : goal.loop-p-preserved
 loop-p-preserved c =
-    laid_more (held c.args.draft.now) (held c.loop-p.draft) (held c.push-pair.new.draft) c.args.pairs.now c.loop-p.p-index _ no_pair
-    c.loop-p.invariant c.loop-p-test.true refl c.push-pair.ensures.after c.push-pair.ensures.short
+    laid_more (held c.args.draft.now) (held c.loop-p.draft) (held c.push_pair.new.draft) c.args.pairs.now c.loop-p.p-index _ no_pair
+    c.loop-p.invariant c.loop-p-test.true refl c.push_pair.ensures.after c.push_pair.ensures.short
 
 pub returns : goal.returns
 returns c =

@@ -1,4 +1,3 @@
-use Rattle.std.proofs.Common.{arith}
 use Rattle.text.proofs.Drafting.{drafted}
 use Rattle.text.proofs.draft.Draft.push.Goals as goal
 

@@ -5,14 +5,14 @@ use Rattle.text.proofs.draft.acts.digits.Goals as goal
 pub loop-left-init : goal.loop-left-init
 loop-left-init c = laying_none c.args.n _ c.ranges.n.fits refl refl
 
-pub overflow-sub-from : goal.overflow-sub-from
-overflow-sub-from c = laying_room _ _ _ _ c.loop-left.invariant
+pub overflow_sub-from : goal.overflow_sub-from
+overflow_sub-from c = laying_room _ _ _ _ c.loop-left.invariant
 
 pub loop-left-preserved : goal.loop-left-preserved
 loop-left-preserved c = laying_more _ _ _ _ c.loop-left.invariant c.loop-left-test.true
 
-pub overflow-sub-from-2 : goal.overflow-sub-from-2
-overflow-sub-from-2 c = laying_room _ _ _ _ c.loop-left.invariant
+pub overflow_sub-from-2 : goal.overflow_sub-from-2
+overflow_sub-from-2 c = laying_room _ _ _ _ c.loop-left.invariant
 
 pub returns : goal.returns
 returns c =
