@@ -1,12 +1,12 @@
 -- The balancing price is the least that reaches the demand, and there is one exactly where the offers total enough.
-use Rattle.std.proofs.Common.{◌≡◌, ℕ, ◌+◌, ◌<◌, ◌≤◌, Bool, true, false, cond, leb, ◌⊎◌, List, [], ◌∷◌, map, ℤ, ◌≤ℤ◌, Some, None, Option, sym, refl, ap, ◌∙◌, subst, inl, inr, ⊎_elim, arith}
+use Rattle.std.proofs.Common.{◌≡◌, ℕ, ◌<◌, ◌≤◌, Bool, true, false, cond, leb, List, [], ◌∷◌, map, ℤ, ◌≤ℤ◌, Some, None, Option, sym, refl, ap, ◌∙◌, subst, ⊎_elim, arith}
 use lib.Signed.{lt_z}
 use Rattle.std.proofs.lemmas.Int.{ints}
 use Rattle.std.proofs.lemmas.Bool.{le-leb, lt-leb, leb-true, cases_lt}
 use Rattle.merit.specs.declared.rung.Rung.{Rung}
 use Rattle.merit.specs.Rungs.{merit_order}
 use Rattle.merit.specs.Prices.{total, offered, lesser, least_of, balancing, marginal, owned, priced}
-use Rattle.merit.specs.Claims.{Asked, Balances, Marginal, LeastPrice, ReachedExactly, MarginalPrice, PricedExactly}
+use Rattle.merit.specs.Claims.{Asked, Balances, LeastPrice, ReachedExactly, MarginalPrice, PricedExactly}
 use Rattle.merit.specs.Ranking.{total_ranked}
 use Rattle.merit.proofs.Margins.{marginal_splits, marginal_none, marginal_some, margin_balances, offered_total}
 

@@ -1,5 +1,5 @@
 -- What a sheet gives its offers: few pairs, prices in their span, a demand above zero, and where it is past close a price.
-use Rattle.std.proofs.Common.{◌≡◌, ℕ, zero, suc, ◌+◌, ◌-◌, ◌<◌, ◌≤◌, Bool, true, false, cond, ◌&&◌, leb, ◌⊎◌, List, [], ◌∷◌, ◌++◌, length, take, ℤ, nat_abs, is_some as option_is_some, Some, None, Option, sym, refl, ap, ◌∙◌, subst, inl, inr, ⊎_elim, arith}
+use Rattle.std.proofs.Common.{◌≡◌, ℕ, ◌+◌, ◌-◌, ◌<◌, ◌≤◌, Bool, true, ◌&&◌, leb, List, [], ◌∷◌, length, take, ℤ, nat_abs, is_some as option_is_some, Some, None, Option, sym, refl, ap, ◌∙◌, subst, ⊎_elim, arith}
 use lib.Signed.{le_z}
 use Rattle.std.specs.List.{AllByRecursion as All}
 use Rattle.std.proofs.ByRecursion.{All-append}
@@ -27,7 +27,7 @@ use Rattle.sheets.specs.Sheets.{sheet_sound, spans_sound, stage, figures_sound, 
 use Rattle.sheets.specs.Tests.{if_some, all2}
 use Rattle.merit.specs.declared.rung.Rung.{Rung}
 use Rattle.merit.specs.Rungs.{rungs_from, curve, offers_from, offers_of, merit_order}
-use Rattle.merit.specs.Prices.{total, marginal, priced, priced_at}
+use Rattle.merit.specs.Prices.{total, marginal, priced_at}
 use Rattle.merit.specs.Working.{factored, eight_at_most, laid}
 use Rattle.merit.specs.Claims.{Asked, PastClose}
 use Rattle.merit.proofs.Counting.{total_offers}

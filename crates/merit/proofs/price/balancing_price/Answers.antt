@@ -1,13 +1,11 @@
-use Rattle.std.proofs.Common.{◌≡◌, ℕ, ◌≤◌, true, false, ℤ, nat_abs, is_some, Some, None, Option, sym, ap, ◌∙◌, arith, w64, to_z, of_z}
+use Rattle.std.proofs.Common.{◌≡◌, ℕ, ◌≤◌, false, ℤ, nat_abs, is_some, Some, None, sym, ap, ◌∙◌, arith, w64, to_z, of_z}
 use Rattle.std.specs.Option.{option_map}
 use Rattle.std.proofs.lemmas.Int.{ints}
 use Rattle.schedule.specs.declared.span.BalancingPrice.{BalancingPrice}
 use Rattle.schedule.specs.Spans.{balancing_fits}
 use Rattle.sheets.specs.Held.{known}
 use Rattle.sheets.specs.Changes.{table}
-use Rattle.merit.specs.declared.rung.Rung.{Rung}
-use Rattle.merit.specs.Rungs.{offers_of, merit_order}
-use Rattle.merit.specs.Prices.{marginal}
+use Rattle.merit.specs.Rungs.{offers_of}
 use Rattle.merit.proofs.Sound.{walked, found_price, found_near, found_none, sheet_reaches}
 use Rattle.merit.proofs.price.balancing_price.Goals as goal
 

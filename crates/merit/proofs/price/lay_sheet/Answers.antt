@@ -1,4 +1,4 @@
-use Rattle.std.proofs.Common.{◌≡◌, length, sym, ap, ◌∙◌}
+use Rattle.std.proofs.Common.{length, sym, ap, ◌∙◌}
 use Rattle.offers.specs.Tests.{all}
 use Rattle.merit.specs.Working.{factored, eight_at_most}
 use Rattle.merit.proofs.Sound.{register_factors, sheet_offering}
