@@ -1,9 +1,8 @@
 -- What a passed check tells.
-use Rattle.std.proofs.Common.{◌≡◌, ℕ, ◌+◌, Bool, true, false, cond, ◌&&◌, List, [], ◌∷◌, Ok, Err, sym, refl, ap, ◌∙◌, true≢false, arith}
+use Rattle.std.proofs.Common.{◌≡◌, ℕ, ◌+◌, Bool, true, false, ◌&&◌, List, [], ◌∷◌, Ok, Err, sym, refl, ap, ◌∙◌, true≢false, arith}
 use Rattle.refusals.specs.declared.Refusal.{Refusal}
 use Rattle.sheets.specs.Tests.{every}
-use Rattle.pool.specs.Checks.{Check, unless, told, figures, ◌then◌}
-use Rattle.offers.proofs.Tests.{and_both}
+use Rattle.pool.specs.Checks.{Check, unless, figures, ◌then◌}
 
 pub unless_pass : (b : Bool) (f : Refusal) → ◌≡◌ {A = Check} (Ok tt) (unless b f) → b ≡ true
 unless_pass true f h = refl

@@ -1,5 +1,6 @@
 // The calls of a day, each taken or refused by one table.
 #![tactic(auto)]
+
 pub mod call;
 mod checks;
 pub mod closing;

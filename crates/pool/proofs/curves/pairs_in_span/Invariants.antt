@@ -1,4 +1,4 @@
-use Rattle.std.proofs.Common.{◌≡◌, ◌+◌, ◌*◌, ◌≤◌, drop}
+use Rattle.std.proofs.Common.{◌≡◌, ◌+◌, ◌*◌, drop}
 use Rattle.pool.specs.Checks.{figures}
 use Rattle.pool.specs.Day.{pair_figures}
 use Rattle.pool.proofs.curves.pairs_in_span.Given as goal

@@ -1,4 +1,4 @@
-use Rattle.std.proofs.Common.{◌≡◌, ◌-◌, ◌≤◌, true, ltb, leb, sym, ap, ◌∙◌, arith, leb-true}
+use Rattle.std.proofs.Common.{◌≡◌, ◌-◌, ◌≤◌, true, ltb, leb, ap, ◌∙◌, arith, leb-true}
 use Rattle.std.proofs.lemmas.Bool.Decides.{nat_tests}
 use Rattle.offers.proofs.Tests.{and_first, and_second, and_both}
 use Rattle.sheets.specs.declared.row.Event.TheVariants.{Figure}

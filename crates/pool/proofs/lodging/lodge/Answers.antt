@@ -1,17 +1,16 @@
-use Rattle.std.proofs.Common.{◌≡◌, ◌-◌, ◌<◌, ◌≤◌, true, ◌&&◌, ltb, leb, length, get_or, is_some, Some, sym, ap, ◌∙◌, subst, arith, leb-true}
+use Rattle.std.proofs.Common.{◌≡◌, ◌<◌, ◌≤◌, true, ◌&&◌, leb, length, get_or, is_some, Some, sym, ap, ◌∙◌, arith, leb-true}
 use Rattle.std.proofs.lemmas.Bool.Decides.{nat_tests}
 use Rattle.offers.specs.Curves.{curve, total}
-use Rattle.offers.proofs.Tests.{and_first, and_second, and_both}
+use Rattle.offers.proofs.Tests.{and_second, and_both}
 use Rattle.sheets.specs.declared.row.Event.TheVariants as event
 use Rattle.sheets.specs.declared.register.Register.{Register}
-use Rattle.sheets.specs.declared.facility.Facility.{Facility}
 use Rattle.sheets.specs.Spans.{facility_sound}
 use Rattle.sheets.specs.Sheets.{no_facility, ramp_fits, submission_sound}
 use Rattle.sheets.specs.Tests.{if_some}
 use Rattle.sheets.specs.Held.{known}
 use Rattle.sheets.specs.Changes.{comes, registered, submission_fits, takes_submission}
 use Rattle.sheets.proofs.Lists.{all_at}
-use Rattle.pool.specs.Day.{lodge_figures, submitted}
+use Rattle.pool.specs.Day.{lodge_figures}
 use Rattle.pool.proofs.Passing.{unless_pass, figures_pass, not_both}
 use Rattle.pool.proofs.Laying.{pairs_total, submitted_sound}
 use Rattle.pool.proofs.lodging.lodge.Goals as goal
