@@ -1,11 +1,10 @@
 -- How answers, refusals and balances are written.
-use Rattle.std.specs.Prelude.{ℕ, List, [], ◌∷◌, ◌++◌, ℤ, Some, None, Ok, Err, codes, decimal, Option, Result}
+use Rattle.std.specs.Prelude.{ℕ, List, [], ◌++◌, ℤ, Some, None, Ok, Err, codes, decimal, Option, Result}
 use Rattle.std.specs.Fmt.{signed_decimal}
 use Rattle.ledger.specs.declared.reason.Reason.{Reason}
 use Rattle.ledger.specs.Posting.{reason_number}
 use Rattle.refusals.specs.declared.Refusal.{Refusal}
 use Rattle.refusals.specs.Table.{refusal_number, refusal_place, refusal_reason}
-use Rattle.pool.specs.declared.call.Lodged.{Lodged}
 use Rattle.pool.specs.declared.call.Lodged.TheVariants.{Same, New}
 use Rattle.pool.specs.declared.call.Answer.{Answer}
 use Rattle.pool.specs.declared.call.Answer.TheVariants.{Number, Opened, Lodging, Set, Price}

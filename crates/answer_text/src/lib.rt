@@ -1,5 +1,6 @@
 // The text of what a day's calls answer, line by line.
 #![tactic(auto)]
+
 ghost use Rattle.std.specs.Prelude.{◌≡◌, ◌+◌, ◌≤◌, ◌++◌, length, decimal};
 ghost use Rattle.text.specs.Drafts.{held, kept};
 ghost use Rattle.answer_text.specs.Answers.{price_words, answer_words, refusal_words, reason_words, result_words, answered, not_answered, balance_text, sum_text};
