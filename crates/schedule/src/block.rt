@@ -1,6 +1,6 @@
 // The pairs of a curve as blocks, and energy divided over them.
 ghost use Rattle.std.specs.Prelude.{◌≡◌, ◌-◌, ◌*◌, ◌<◌, ◌≤◌, [], ◌++◌, reverse, length, take, drop, filter, int_lt};
-ghost use Rattle.std.specs.List.{AllByRecursion as All};
+ghost use Rattle.std.specs.List.{AllByRecursion};
 ghost use Rattle.offers.specs.Curves as curves;
 ghost use Rattle.schedule.specs.Rounding as rounding;
 ghost use Rattle.schedule.specs.Ramps as ramps;
@@ -97,7 +97,7 @@ impl Taken {
 
 // What all of them cost.
 pub(crate) fn cost_of_all(taken: &[Taken], factor: LossFactor, price: BalancingPrice) -> u64
-    requires near { All blocking.Priced taken.now }
+    requires near { AllByRecursion blocking.Priced taken.now }
     requires few { blocking.energies taken.now ≤ 30000000 }
     ensures value { result ≡ blocking.costs factor.value price.cents taken.now }
     ensures bound { result ≤ 93750000000000000 }
