@@ -1,12 +1,12 @@
 -- The loops over the pairs of a lodge.
-use Rattle.std.proofs.Common.{◌≡◌, ℕ, suc, ◌+◌, ◌-◌, ◌<◌, ◌≤◌, Bool, true, false, cond, leb, List, [], ◌∷◌, ◌++◌, length, take, drop, set, is_some, Some, None, Option, sym, refl, ap, ◌∙◌, subst, arith}
+use Rattle.std.proofs.Common.{◌≡◌, ℕ, suc, ◌+◌, ◌<◌, ◌≤◌, true, false, leb, List, [], ◌∷◌, ◌++◌, length, take, set, is_some, Some, None, Option, sym, refl, ap, ◌∙◌, arith}
 use Rattle.std.specs.Option.{option_map}
 use Rattle.std.proofs.lemmas.List.{append_assoc, append-nil, length-append, length-take-le, take_all, take_more_set}
 use Rattle.std.proofs.lemmas.Bool.{cond-true, cond-false}
 use Rattle.std.proofs.lemmas.Bool.Decides.{nat_tests}
 use Rattle.offers.specs.declared.pair.Pair.{Pair}
 use Rattle.text.specs.Lines.{before, after}
-use Rattle.day_text.specs.Words.{words, words_left, next_word, and_then, first, pair_of, all_pairs, counted, fitting}
+use Rattle.day_text.specs.Words.{words, words_left, and_then, first, pair_of, all_pairs, counted, fitting}
 use Rattle.day_text.proofs.Wording.{words_cut}
 
 -- ---- one word

@@ -1,9 +1,5 @@
 -- A line cut at its first space, and its words.
-use Rattle.std.proofs.Common.{◌≡◌, ℕ, Bool, true, false, cond, eqb, List, [], ◌∷◌, Some, None, Decides, Option, sym, refl, ap, ◌∙◌}
-use Rattle.std.proofs.lemmas.Slice.Eq.{slice_eq-Decides, bytes_eq-Decides}
-use Rattle.std.proofs.lemmas.Bool.Decides.{same_from_decides, Decides-eqb}
-use Rattle.std.specs.Cmp.Lexicographic.{Matches}
-use Rattle.std.specs.Str.{bytes_eq}
+use Rattle.std.proofs.Common.{◌≡◌, ℕ, true, false, cond, eqb, List, [], ◌∷◌, Some, None, Option, sym, refl, ap, ◌∙◌}
 use Rattle.text.specs.Lines.{before, after}
 use Rattle.day_text.specs.Words.{onto, words, words_left, next_word, ended}
 
@@ -22,7 +18,3 @@ next_cut s w t p q =
 -- a line that is there has a word
 pub not_ended : {X : Type 0} (x : X) (s : List ℕ) → None ≡ ended x (words s)
 not_ended x s = sym (ap (ended x) (words_cut s))
-
--- the code's `==` on words is the definition's
-pub same_test : (a b : List ℕ) (r : Bool) → Matches (λ (x y : ℕ) (t : Bool). Decides t (x ≡ y)) a b r → r ≡ bytes_eq a b
-same_test a b r m = sym (same_from_decides (bytes_eq a b) r (bytes_eq-Decides a b) (slice_eq-Decides Decides-eqb a b r m))

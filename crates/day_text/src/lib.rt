@@ -1,5 +1,6 @@
 // The text of a day file: what each of its lines says, and the text of what is answered.
 #![tactic(auto)]
+
 mod arguments;
 mod keyword;
 pub mod line;

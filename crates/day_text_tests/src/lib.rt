@@ -1,5 +1,6 @@
 // Lines of a day file at the edges of the rules, and what they are.
 #![tactic(auto)]
+
 use day_text::line::DayLine;
 use day_text::parse::parse;
 use offers::pair::Pair;

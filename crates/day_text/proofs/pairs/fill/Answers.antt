@@ -10,7 +10,7 @@ loop-i-init c = filling_none (words_left (option_map (λ x. x.now) c.args.left))
 pub unreachable-requires : goal.unreachable-requires
 unreachable-requires c =
     filling_stop (words_left (option_map (λ x. x.now) c.args.left)) (words_left (option_map (λ x. x.now) c.loop-i.rest)) c.loop-i.i c.loop-i.out
-    (omega arith) c.loop-i.invariant (c.requires ∙ ap Some (sym c.loop-i.auto.out)) c.in-default.ensures
+    (omega arith) c.loop-i.invariant (c.requires ∙ ap Some (sym c.loop-i.auto.out)) c.in_default.ensures
 
 pub loop-i-preserved : goal.loop-i-preserved
 loop-i-preserved c =
