@@ -1,5 +1,6 @@
 // Every refusal of every call, with its place; and rows handed in broken in each way.
 #![tactic(auto)]
+
 use offers::curve::Curve;
 use offers::pair::Pair;
 use offers::submission::Submission;

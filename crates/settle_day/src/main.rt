@@ -1,5 +1,6 @@
 // Settles a day: a day file on standard input, an answer for each call and the balances on standard output.
 #![tactic(auto)]
+
 mod calls;
 mod day;
 mod lines;
@@ -11,12 +12,10 @@ use std::io::{BufWriter, Read, Write};
 
 // All of standard input. Where it cannot be read, the error says how far it could.
 fn read_input(rt: &HostRuntime) -> anyhow::Result<Vec<u8>> {
-    let heap = rt.alloc();
-    let mut text = Vec::new(heap);
+    let mut text = Vec::new(rt.alloc());
     if let Err(error) = rt.stdin().read_to_end(&mut text) {
         let line = number_of_lines(text.as_slice());
-        let told = format!(in heap; "cannot read line {line} of the day file: {error}")?;
-        return Err(told.into());
+        return Err(anyhow::anyhow!("cannot read line {line} of the day file: {error}"));
     }
     Ok(text)
 }
