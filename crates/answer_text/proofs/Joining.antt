@@ -35,3 +35,6 @@ three old a b d x y z p q r = kept_more old a d x (y ++ z) p (two a b d y z q r)
 
 pub four : (old a b d e x y z w : List ℕ) → a ≡ kept (old ++ x) → b ≡ kept (a ++ y) → d ≡ kept (b ++ z) → e ≡ kept (d ++ w) → e ≡ kept (old ++ (x ++ (y ++ (z ++ w))))
 four old a b d e x y z w p q r s = kept_more old a e x (y ++ (z ++ w)) p (three a b d e y z w q r s)
+
+pub five : (old a b d e f x y z w v : List ℕ) → a ≡ kept (old ++ x) → b ≡ kept (a ++ y) → d ≡ kept (b ++ z) → e ≡ kept (d ++ w) → f ≡ kept (e ++ v) → f ≡ kept (old ++ (x ++ (y ++ (z ++ (w ++ v)))))
+five old a b d e f x y z w v p q r s t = kept_more old a f x (y ++ (z ++ (w ++ v))) p (four a b d e f y z w v q r s t)

@@ -1,5 +1,5 @@
--- How answers, refusals and balances are written.
-use Rattle.std.specs.Prelude.{ℕ, List, [], ◌++◌, ℤ, Some, None, Ok, Err, codes, decimal, Option, Result}
+-- How answers, refusals, balances and the lines of a journal are written.
+use Rattle.std.specs.Prelude.{ℕ, List, [], ◌∷◌, ◌++◌, ℤ, Some, None, Ok, Err, codes, decimal, Option, Result}
 use Rattle.std.specs.Fmt.{signed_decimal}
 use Rattle.ledger.specs.declared.reason.Reason.{Reason}
 use Rattle.ledger.specs.Posting.{reason_number}
@@ -7,7 +7,7 @@ use Rattle.refusals.specs.declared.Refusal.{Refusal}
 use Rattle.refusals.specs.Table.{refusal_number, refusal_place, refusal_reason}
 use Rattle.pool.specs.declared.call.Lodged.TheVariants.{Same, New}
 use Rattle.pool.specs.declared.call.Answer.{Answer}
-use Rattle.pool.specs.declared.call.Answer.TheVariants.{Number, Opened, Lodging, Set, Price}
+use Rattle.pool.specs.declared.call.Answer.TheVariants.{Number, Opened, Lodging, Set, Price, Posts}
 
 -- the balancing price and the marginal facility
 abbrev pub price_words : ℤ → ℕ → List ℕ
@@ -21,6 +21,7 @@ answer_words (Lodging Same) = codes "same"
 answer_words (Lodging New) = codes "new"
 answer_words Set = codes "set"
 answer_words (Price p f) = price_words p f
+answer_words (Posts n) = codes "posts=" ++ decimal n
 
 -- the ledger's reason, where it was the ledger that refused
 abbrev pub reason_words : Option Reason → List ℕ
@@ -41,6 +42,10 @@ answered n r = decimal n ++ (codes ": " ++ (result_words r ++ codes "\n"))
 
 abbrev pub not_answered : ℕ → List ℕ
 not_answered n = decimal n ++ codes ": not a call\n"
+
+-- a line of the journal
+abbrev pub journal_text : ℕ → ℕ → ℤ → List ℕ
+journal_text k a z = (codes "line=" ++ decimal k) ++ ((codes " account=" ++ decimal a) ++ (codes " cents=" ++ (signed_decimal z ++ codes "\n")))
 
 -- the lines after the last call
 abbrev pub balance_text : ℕ → ℤ → List ℕ

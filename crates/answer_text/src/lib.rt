@@ -3,7 +3,7 @@
 
 ghost use Rattle.std.specs.Prelude.{◌≡◌, ◌+◌, ◌≤◌, ◌++◌, length, decimal};
 ghost use Rattle.text.specs.Drafts.{held, kept};
-ghost use Rattle.answer_text.specs.Answers.{price_words, answer_words, refusal_words, reason_words, result_words, answered, not_answered, balance_text, sum_text};
+ghost use Rattle.answer_text.specs.Answers.{price_words, answer_words, refusal_words, reason_words, result_words, answered, not_answered, journal_text, balance_text, sum_text};
 
 use ledger::reason::Reason;
 use pool::call::{Answer, Lodged};
@@ -38,6 +38,7 @@ fn push_answer(draft: &mut Draft, answer: Answer)
         Answer::Lodging(Lodged::New) => draft.push(b"new"),
         Answer::Set => draft.push(b"set"),
         Answer::Price { price, facility } => push_price(draft, price, facility),
+        Answer::Posts(posts) => push_figure(draft, b"posts=", posts as u64),
     }
 }
 
@@ -88,6 +89,19 @@ pub fn not_a_call(line: u64) -> Draft
     let mut draft = Draft::new();
     draft.push_natural(line);
     draft.push(b": not a call\n");
+    draft
+}
+
+// A line of the journal: its number, the account, and what was posted to it.
+pub fn journal_line(line: usize, account: u32, cents: i64) -> Draft
+    ensures { held result ≡ journal_text line account cents }
+{
+    let mut draft = Draft::new();
+    push_figure(&mut draft, b"line=", line as u64);
+    push_figure(&mut draft, b" account=", account as u64);
+    draft.push(b" cents=");
+    draft.push_signed(cents);
+    draft.push(b"\n");
     draft
 }
 

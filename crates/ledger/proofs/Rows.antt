@@ -1,13 +1,13 @@
 -- What the refusal of a row says of each amount.
-use Rattle.std.proofs.Common.{◌≡◌, ℕ, zero, suc, ◌+◌, ◌<◌, ◌≤◌, Bool, true, false, cond, ltb, List, [], ◌∷◌, length, ℤ, pos, negsuc, Some, None, Ok, Err, Option, sym, refl, ap, ◌∙◌, subst, ⊎_elim, arith}
-use Rattle.std.proofs.lemmas.List.{get_or_past}
+use Rattle.std.proofs.Common.{◌≡◌, ℕ, zero, suc, ◌+◌, ◌<◌, ◌≤◌, Bool, true, false, cond, ltb, List, [], ◌∷◌, ◌++◌, length, take, ℤ, pos, negsuc, Some, None, Ok, Err, Option, sym, refl, ap, ◌∙◌, subst, ⊎_elim, append_assoc, arith}
+use Rattle.std.proofs.lemmas.List.{get_or_past, append-nil, length-take-le, take_more}
 use Rattle.std.proofs.lemmas.Bool.{cases_lt, cases_Bool, cond-true, cond-false, lt-ltb, le-ltb, ltb-true, ltb-false}
 use Rattle.ledger.specs.declared.reason.Reason.{Reason}
 use Rattle.ledger.specs.declared.reason.Reason.TheVariants.{NoPlaces}
 use Rattle.ledger.specs.declared.row.RowRefusal.{RowRefusal}
 use Rattle.ledger.specs.View.{View}
 use Rattle.ledger.specs.Posting.{refusal}
-use Rattle.ledger.specs.Rows.{non_zero, posts, amount, refused_at, amount_refusal, or_else, first_refused, row_refusal, unless_refused, row_answer}
+use Rattle.ledger.specs.Rows.{post_of, row_posts, non_zero, posts, amount, refused_at, amount_refusal, or_else, first_refused, row_refusal, unless_refused, row_answer}
 use Rattle.ledger.proofs.Tested.{taken_because}
 
 pub zero_not_posted : (z : ℤ) → z ≡ pos 0 → non_zero z ≡ false
@@ -79,3 +79,22 @@ module _ (v : View) (xs : List ℤ) (ok : row_refusal v xs ≡ None) where
   -- it has no amount for an account that is not there
   pub none_missing : (k : ℕ) → v.count ≤ k → amount xs k ≡ pos 0
   none_missing k past = ⊎_elim (missing_zero k past) (get_or_past xs k (pos 0)) (cases_lt k (length xs))
+
+-- ---- the posts of a row, one amount more
+row_posts_push : (a : ℕ) (xs : List ℤ) (x : ℤ) → row_posts a (xs ++ (x ∷ [])) ≡ row_posts a xs ++ post_of (a + length xs) x
+row_posts_push a [] x = append-nil (post_of a x) ∙ ap (λ k. post_of k x) (let same : a ≡ a + 0 = omega arith in same)
+row_posts_push a (y ∷ ys) x =
+    ap (λ ps. post_of a y ++ ps) (row_posts_push (a + 1) ys x ∙ ap (λ k. row_posts (a + 1) ys ++ post_of k x) (let same : (a + 1) + length ys ≡ a + length (y ∷ ys) = omega arith in same))
+    ∙ sym (append_assoc (post_of a y) (row_posts (a + 1) ys) (post_of (a + length (y ∷ ys)) x))
+
+row_posts_more : (xs : List ℤ) (i : ℕ) → i < length xs → row_posts 0 (take (i + 1) xs) ≡ row_posts 0 (take i xs) ++ post_of i (amount xs i)
+row_posts_more xs i inside =
+    ap (row_posts 0) (take_more xs i (pos 0) inside)
+    ∙ row_posts_push 0 (take i xs) (amount xs i)
+    ∙ ap (λ k. row_posts 0 (take i xs) ++ post_of k (amount xs i)) (let n = length-take-le i xs (omega arith) in let same : 0 + length (take i xs) ≡ i = omega arith in same)
+
+pub row_posts_taken : (xs : List ℤ) (i : ℕ) → i < length xs → non_zero (amount xs i) ≡ true → row_posts 0 (take (i + 1) xs) ≡ row_posts 0 (take i xs) ++ (record { account = i; cents = amount xs i } ∷ [])
+row_posts_taken xs i inside some = row_posts_more xs i inside ∙ ap (λ ps. row_posts 0 (take i xs) ++ ps) (cond-true (non_zero (amount xs i)) (record { account = i; cents = amount xs i } ∷ []) [] some)
+
+pub row_posts_skipped : (xs : List ℤ) (i : ℕ) → i < length xs → non_zero (amount xs i) ≡ false → row_posts 0 (take (i + 1) xs) ≡ row_posts 0 (take i xs)
+row_posts_skipped xs i inside e = row_posts_more xs i inside ∙ ap (λ ps. row_posts 0 (take i xs) ++ ps) (cond-false (non_zero (amount xs i)) (record { account = i; cents = amount xs i } ∷ []) [] e) ∙ append-nil (row_posts 0 (take i xs))

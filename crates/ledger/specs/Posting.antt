@@ -1,5 +1,5 @@
 -- What a post answers, and what it does to the ledger as seen.
-use Rattle.std.specs.Prelude.{◌≡◌, ℕ, ◌+◌, ◌<◌, Bool, cond, not, ◌||◌, ◌⊎◌, ℤ, ◌+ℤ◌, Some, None, Ok, Err, Option, Result, ◌==◌, ◌≢◌, int_lt, nat_lt}
+use Rattle.std.specs.Prelude.{◌≡◌, ℕ, ◌+◌, ◌<◌, Bool, cond, not, ◌||◌, ◌⊎◌, List, [], ◌∷◌, ℤ, ◌+ℤ◌, Some, None, Ok, Err, Option, Result, ◌==◌, ◌≢◌, int_lt, nat_lt}
 use Rattle.ledger.specs.declared.reason.Reason.{Reason}
 use Rattle.ledger.specs.declared.reason.Reason.TheVariants.{NoAccount, NoPlaces, OutOfBounds}
 use Rattle.ledger.specs.View.{View}
@@ -33,3 +33,13 @@ pub record Posted (v : View) (a : ℕ) (x : ℤ) (w : View) : Type 0 where
 abbrev pub Answered : View → ℕ → ℤ → Result Unit Reason → View → Type 0
 Answered v a x (Ok _) w = (refusal v a x ≡ None) × Posted v a x w
 Answered v a x (Err e) w = (refusal v a x ≡ Some e) × (w ≡ v)
+
+-- one post that was taken
+pub record Post : Type 0 where
+  pub account : ℕ
+  pub cents : ℤ
+
+-- the posts that were taken: the one, or none where it was refused
+abbrev pub taken : ℕ → ℤ → Result Unit Reason → List Post
+taken a x (Ok _) = record { account = a; cents = x } ∷ []
+taken a x (Err _) = []

@@ -1,10 +1,10 @@
 -- A row of amounts, one for each account from 0, posted all together or not at all.
-use Rattle.std.specs.Prelude.{◌≡◌, ℕ, zero, suc, ◌+◌, ◌<◌, ◌≤◌, Bool, true, false, cond, List, [], ◌∷◌, ℤ, pos, negsuc, ◌+ℤ◌, Some, None, Ok, Err, count_by, Option, Result, nat_lt, slice_index_or}
+use Rattle.std.specs.Prelude.{◌≡◌, ℕ, zero, suc, ◌+◌, ◌<◌, ◌≤◌, Bool, true, false, cond, List, [], ◌∷◌, ◌++◌, ℤ, pos, negsuc, ◌+ℤ◌, Some, None, Ok, Err, count_by, Option, Result, nat_lt, slice_index_or}
 use Rattle.ledger.specs.declared.reason.Reason.{Reason}
 use Rattle.ledger.specs.declared.reason.Reason.TheVariants.{NoPlaces}
 use Rattle.ledger.specs.declared.row.RowRefusal.{RowRefusal}
 use Rattle.ledger.specs.View.{View}
-use Rattle.ledger.specs.Posting.{refusal}
+use Rattle.ledger.specs.Posting.{refusal, Post}
 
 abbrev pub non_zero : ℤ → Bool
 non_zero (pos zero) = false
@@ -66,3 +66,16 @@ pub record Moved (v : View) (f : ℕ → ℤ) (n : ℕ) (w : View) : Type 0 wher
 abbrev pub RowAnswered : View → List ℤ → Result ℕ RowRefusal → View → Type 0
 RowAnswered v xs (Ok n) w = (row_refusal v xs ≡ None) × (n ≡ posts xs) × Moved v (amount xs) (posts xs) w
 RowAnswered v xs (Err e) w = (row_refusal v xs ≡ Some e) × (w ≡ v)
+
+-- the post of an amount, none where it is zero
+abbrev pub post_of : ℕ → ℤ → List Post
+post_of a x = cond (non_zero x) (record { account = a; cents = x } ∷ []) []
+
+-- the posts of a row, in rising order of account from a on
+abbrev pub row_posts : ℕ → List ℤ → List Post
+row_posts a [] = []
+row_posts a (x ∷ xs) = post_of a x ++ row_posts (a + 1) xs
+
+abbrev pub row_taken_posts : List ℤ → Result ℕ RowRefusal → List Post
+row_taken_posts xs (Ok _) = row_posts 0 xs
+row_taken_posts xs (Err _) = []

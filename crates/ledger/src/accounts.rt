@@ -1,7 +1,7 @@
 // The two halves of a ledger: what it tells, and what takes posts.
-ghost use Rattle.std.specs.Prelude.{◌≡◌};
+ghost use Rattle.std.specs.Prelude.{◌≡◌, List, [], ◌++◌};
 ghost use Rattle.ledger.specs.View.{View, Sound, told};
-ghost use Rattle.ledger.specs.Posting.{Answered};
+ghost use Rattle.ledger.specs.Posting.{Answered, Post, taken};
 
 use crate::reason::Reason;
 
@@ -35,6 +35,16 @@ pub trait Accounts {
 
 // The posting half: a post is told by what is seen before and after it.
 pub trait Ledger: Accounts {
+    // what posts taken one after another do to the ledger, beyond what is seen
+    ghost took: { Self → List Post → Self → Type 0 };
+
+    // no post does nothing
+    ghost none: { (x : Self) → took x [] x };
+
+    // posts and then more posts
+    ghost more: { (x y z : Self) (ps qs : List Post) → took x ps y → took y qs z → took x (ps ++ qs) z };
+
     fn post(&mut self, account: usize, cents: i64) -> Result<(), Reason>
-        ensures { Answered (Self.view self.old) account cents result (Self.view self.new) };
+        ensures answered { Answered (Self.view self.old) account cents result (Self.view self.new) }
+        ensures took { Self.took self.old (taken account cents result) self.new };
 }

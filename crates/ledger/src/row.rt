@@ -1,7 +1,7 @@
 // Posts a row of twelve amounts, one for each account from 0, to any ledger: all of them or none.
 ghost use Rattle.std.specs.Prelude.{◌≡◌, ◌||◌, pos, ◌+ℤ◌, if◌then◌else◌, Some, None, int_lt};
 ghost use Rattle.ledger.specs.Posting.{refusal};
-ghost use Rattle.ledger.specs.Rows.{non_zero, posts, amount, amount_refusal, first_refused, row_refusal, row_answer, Moved, RowAnswered};
+ghost use Rattle.ledger.specs.Rows.{non_zero, posts, amount, amount_refusal, first_refused, row_refusal, row_answer, Moved, RowAnswered, row_posts, row_taken_posts};
 ghost use Rattle.ledger.specs.Sums.{row_sum, ledger_sum};
 ghost use Rattle.ledger.specs.declared.reason.Reason.TheVariants.{OutOfBounds};
 
@@ -108,7 +108,8 @@ pub fn check_row<L: Accounts>(ledger: &L, amounts: &[i64; 12]) -> Result<usize, 
 // Posts each amount that is not zero, in rising order of account.
 fn post_each<L: Ledger>(ledger: &mut L, amounts: &[i64; 12])
     requires { row_refusal (L.view ledger.old) amounts.now ≡ None }
-    ensures { Moved (L.view ledger.old) (amount amounts.now) (posts amounts.now) (L.view ledger.new) }
+    ensures took { L.took ledger.old (row_posts 0 amounts.now) ledger.new }
+    ensures moved { Moved (L.view ledger.old) (amount amounts.now) (posts amounts.now) (L.view ledger.new) }
 {
     for (i, x) in amounts.iter().enumerate() {
         if non_zero(*x) {
@@ -122,6 +123,7 @@ fn post_each<L: Ledger>(ledger: &mut L, amounts: &[i64; 12])
 // Posts the row, and answers how many posts that took. Amounts that sum to zero leave the sum of all balances as it was.
 pub fn post_row<L: Ledger>(ledger: &mut L, amounts: &[i64; 12]) -> Result<usize, RowRefusal>
     ensures answered { RowAnswered (L.view ledger.old) amounts.now result (L.view ledger.new) }
+    ensures took { L.took ledger.old (row_taken_posts amounts.now result) ledger.new }
     ensures conserved { row_sum amounts.now ≡ pos 0 → ledger_sum (L.view ledger.new) ≡ ledger_sum (L.view ledger.old) }
 {
     let n = check_row(ledger, amounts)?;

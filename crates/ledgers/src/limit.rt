@@ -1,5 +1,6 @@
 // The credit limit over any ledger: no balance may fall below minus its account's limit.
-ghost use Rattle.std.specs.Prelude.{◌≡◌};
+ghost use Rattle.std.specs.Prelude.{◌≡◌, refl};
+ghost use Rattle.std.proofs.Common.{◌∙◌};
 ghost use Rattle.ledgers.specs.Limits.{limit_at, limited, limited_sound};
 
 use ledger::accounts::{Accounts, Ledger, MOST};
@@ -67,6 +68,12 @@ impl<L: Accounts> Accounts for CreditLimit<L> {
 }
 
 impl<L: Ledger> Ledger for CreditLimit<L> {
+    ghost took = { λ s ps t. L.took s.below ps t.below × (t.limits ≡ s.limits) };
+
+    ghost none = { λ s. (L.none s.below, refl) };
+
+    ghost more = { λ s t u ps qs f g. (L.more s.below t.below u.below ps qs f.0 g.0, g.1 ∙ f.1) };
+
     fn post(&mut self, account: usize, cents: i64) -> Result<(), Reason> {
         if let Some(reason) = refusal_of(self, account, cents) {
             return Err(reason);

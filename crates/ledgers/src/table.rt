@@ -51,6 +51,12 @@ impl Accounts for AccountTable {
 }
 
 impl Ledger for AccountTable {
+    ghost took = { λ _ _ _. Unit {0} };
+
+    ghost none = { λ _. tt };
+
+    ghost more = { λ _ _ _ _ _ _ _. tt };
+
     fn post(&mut self, account: usize, cents: i64) -> Result<(), Reason> {
         if let Some(reason) = refusal_of(self, account, cents) {
             return Err(reason);

@@ -63,7 +63,7 @@ curves_few z (f ∷ fs) (g ∷ gs) h =
     let a : eight_at_most g ≡ true = curve_few z f g.submission (and_first (if_some (submission_sound z f) g.submission) _ own) in
     ap (λ b. b && all eight_at_most (take (length fs) gs)) a ∙ curves_few z fs gs (and_second (figures_sound z f g) (all2 (figures_sound z) fs gs) h)
 
-table_long : (z : Prices) (fs : List Facility) (gs : List Figures) → all2 (figures_sound z) fs gs ≡ true → length fs ≤ length gs
+pub table_long : (z : Prices) (fs : List Facility) (gs : List Figures) → all2 (figures_sound z) fs gs ≡ true → length fs ≤ length gs
 table_long z [] gs h = omega arith
 table_long z (f ∷ fs) [] h = absurd (let y : ◌≡◌ {A = ℕ} 0 1 = cc in omega arith)
 table_long z (f ∷ fs) (g ∷ gs) h = omega (arith, table_long z fs gs (and_second (figures_sound z f g) (all2 (figures_sound z) fs gs) h))

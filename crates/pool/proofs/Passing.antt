@@ -1,8 +1,13 @@
 -- What a passed check tells.
 use Rattle.std.proofs.Common.{◌≡◌, ℕ, ◌+◌, Bool, true, false, ◌&&◌, List, [], ◌∷◌, Ok, Err, sym, refl, ap, ◌∙◌, true≢false, arith}
 use Rattle.refusals.specs.declared.Refusal.{Refusal}
+use Rattle.offers.specs.Tests.{all}
+use Rattle.sheets.specs.declared.row.Figures.{Figures}
 use Rattle.sheets.specs.Tests.{every}
-use Rattle.pool.specs.Checks.{Check, unless, figures, ◌then◌}
+use Rattle.sheets.specs.Sheets.{complete}
+use Rattle.pool.specs.Checks.{Check, unless, told, figures, ◌then◌}
+use Rattle.pool.specs.Day.{figures_complete}
+use Rattle.offers.proofs.Tests.{and_both}
 
 pub unless_pass : (b : Bool) (f : Refusal) → ◌≡◌ {A = Check} (Ok tt) (unless b f) → b ≡ true
 unless_pass true f h = refl
@@ -12,6 +17,16 @@ pub figures_pass : (k : ℕ) (bs : List Bool) → ◌≡◌ {A = Check} (Ok tt) 
 figures_pass k [] h = refl
 figures_pass k (true ∷ bs) h = figures_pass (k + 1) bs h
 figures_pass k (false ∷ bs) h = cc
+
+pub then_pass : (a b : Check) → ◌≡◌ {A = Check} (Ok tt) (a then b) → (◌≡◌ {A = Check} (Ok tt) a) × (◌≡◌ {A = Check} (Ok tt) b)
+then_pass (Ok u) b h = (refl, h)
+then_pass (Err f) b h = absurd (let z : ◌≡◌ {A = ℕ} 0 1 = cc in omega arith)
+
+pub complete_pass : (n : ℕ) (gs : List Figures) → ◌≡◌ {A = Check} (Ok tt) (figures_complete n gs) → all complete gs ≡ true
+complete_pass n [] h = refl
+complete_pass n (g ∷ gs) h =
+    let k = then_pass (unless (complete g) _) (figures_complete (n + 1) gs) h in
+    and_both (complete g) _ (unless_pass (complete g) _ k.0) (complete_pass (n + 1) gs k.1)
 
 pub passes : {a b : Check} → ◌≡◌ {A = Check} (Ok tt) a → b ≡ Ok tt → (a then b) ≡ Ok tt
 passes {a} {b} h k = ap (λ (x : Check). x then b) (sym h) ∙ k

@@ -3,7 +3,9 @@ use Rattle.std.specs.Prelude.{◌≡◌, ℕ, ◌+◌, ◌-◌, Bool, cond, ◌&
 use Rattle.std.specs.Option.{unwrap_or}
 use Rattle.std.specs.Result as results
 use Rattle.ledger.specs.View.{View}
-use Rattle.ledger.specs.Rows.{Moved, amount, posts}
+use Rattle.ledger.specs.Posting.{Post}
+use Rattle.ledger.specs.Rows.{Moved, amount, posts, row_refusal, row_posts}
+use Rattle.ledger.specs.declared.row.RowRefusal.{RowRefusal}
 use Rattle.refusals.specs.declared.Refusal.{Refusal}
 use Rattle.refusals.specs.declared.Refusal.TheVariants as refusal
 use Rattle.offers.specs.declared.pair.Pair.{Pair}
@@ -20,15 +22,17 @@ use Rattle.sheets.specs.declared.row.Event.{Event}
 use Rattle.sheets.specs.declared.row.Event.TheVariants as event
 use Rattle.sheets.specs.Tests.{within_int}
 use Rattle.sheets.specs.Spans.{account_fits, facility_figures, price_figures}
-use Rattle.sheets.specs.Sheets.{sheet_sound, next, no_facility, figures_at, ramp_fits, start_fits, reading_fits, contract_fits, load_fits, demand_fits, with_submission, with_start, with_reading, with_position, with_demand, with_state, reaches}
+use Rattle.sheets.specs.Sheets.{sheet_sound, next, no_facility, figures_at, ramp_fits, start_fits, reading_fits, contract_fits, load_fits, demand_fits, with_submission, with_start, with_reading, with_position, with_demand, with_state, reaches, complete, has_load}
+use Rattle.sheets.specs.declared.row.Position as held
 use Rattle.merit.specs.Prices.{priced_at}
+use Rattle.amounts.specs.Sheets.{row_nets, changed}
 use Rattle.pool.specs.declared.call.Call.{Call}
-use Rattle.pool.specs.declared.call.Call.TheVariants.{Register, Open, Lodge, Start, Reading, Position, Demand, Close}
+use Rattle.pool.specs.declared.call.Call.TheVariants.{Register, Open, Lodge, Start, Reading, Position, Demand, Close, Settle, Adjust}
 use Rattle.pool.specs.declared.call.Lodged.{Lodged}
 use Rattle.pool.specs.declared.call.Lodged.TheVariants.{Same, New}
 use Rattle.pool.specs.declared.call.Answer.{Answer}
-use Rattle.pool.specs.declared.call.Answer.TheVariants.{Number, Opened, Lodging, Set, Price}
-use Rattle.pool.specs.Checks.{Check, first, unless, figures}
+use Rattle.pool.specs.declared.call.Answer.TheVariants.{Number, Opened, Lodging, Set, Price, Posts}
+use Rattle.pool.specs.Checks.{Check, ◌then◌, first, unless, figures}
 
 pub record Day : Type 0 where
   pub facilities : List Facility
@@ -127,6 +131,31 @@ demand_reached gs o i = unless (reaches gs o) (refusal.Short i)
 abbrev pub closing : Day → ℕ → ℤ × ℕ
 closing d i = unwrap_or (priced_at d.facilities (figures_on d i) (sheet d i).demand) (pos 0, 0)
 
+-- ---- settling and adjusting
+-- of some facilities, the first with this number: the first that lacks its reading, or has a submission and no start
+abbrev pub figures_complete : ℕ → List Figures → Check
+figures_complete n [] = Ok tt
+figures_complete n (x ∷ xs) = unless (complete x) (refusal.Missing n) then figures_complete (n + 1) xs
+
+abbrev pub load_there : List held.Position → ℕ → Check
+load_there ps i = unless (has_load ps) (refusal.NoLoad i)
+
+-- the nets of a sheet
+abbrev pub nets_on : Day → ℕ → List ℤ
+nets_on d i = row_nets d.facilities (sheet d i)
+
+-- what another reading makes of them, less what they are
+abbrev pub adjustment : Day → ℕ → ℕ → ℕ → List ℤ
+adjustment d f i n = changed (row_nets d.facilities (with_reading (sheet d i) (f - 1) n)) (nets_on d i)
+
+abbrev pub not_refused : Option RowRefusal → Check
+not_refused None = Ok tt
+not_refused (Some e) = Err (refusal.Posting e)
+
+-- the ledger takes the amounts
+abbrev pub postable : View → List ℤ → Check
+postable v xs = not_refused (row_refusal v xs)
+
 -- ---- the table of refusals: the checks of each call, in rising order of number
 abbrev pub checks : Day → View → Call → List Check
 checks d v (Register a x c t) = not_open d.prices ∷ (room d.facilities ∷ (account_known a ∷ (figures 1 (facility_figures x c t) ∷ [])))
@@ -145,6 +174,12 @@ checks d v (Demand i n) =
 checks d v (Close i k) =
     is_open d.prices ∷ (interval_known d.rows i ∷ (at_sheet d event.Close i
     ∷ (enough_rungs k ∷ (has_demand (sheet d i).demand ∷ (demand_reached (figures_on d i) (sheet d i).demand i ∷ [])))))
+checks d v (Settle i) =
+    is_open d.prices ∷ (interval_known d.rows i ∷ (at_sheet d event.Settle i
+    ∷ (figures_complete 1 (figures_on d i) ∷ (load_there (sheet d i).positions i ∷ (postable v (nets_on d i) ∷ [])))))
+checks d v (Adjust f i n) =
+    is_open d.prices ∷ (interval_known d.rows i ∷ (facility_known d.facilities f ∷ (at_sheet d event.Adjust i
+    ∷ (figures 1 (reading_fits n ∷ []) ∷ (postable v (adjustment d f i n) ∷ [])))))
 
 abbrev pub table : Day → View → Call → Check
 table d v c = first (checks d v c)
@@ -159,6 +194,8 @@ answer d (Reading f i n) = Set
 answer d (Position a i c l) = Set
 answer d (Demand i n) = Set
 answer d (Close i k) = Price (closing d i).0 (closing d i).1
+answer d (Settle i) = Posts (posts (nets_on d i))
+answer d (Adjust f i n) = Posts (posts (adjustment d f i n))
 
 -- the day after a taken call
 abbrev pub after : Day → Call → Day
@@ -171,6 +208,8 @@ after d (Reading f i n) = put d i (with_reading (sheet d i) (f - 1) n)
 after d (Position a i c l) = put d i (with_position (sheet d i) (a - 1) (record { contract = c; load = l }))
 after d (Demand i n) = put d i (with_demand (sheet d i) n)
 after d (Close i k) = put d i (with_state (sheet d i) state.Closed)
+after d (Settle i) = put d i (with_state (sheet d i) state.Settled)
+after d (Adjust f i n) = put d i (with_reading (sheet d i) (f - 1) n)
 
 -- the amounts that a taken call posts, account 0 first
 abbrev pub posted : Day → Call → List ℤ
@@ -182,6 +221,17 @@ posted d (Reading f i n) = []
 posted d (Position a i c l) = []
 posted d (Demand i n) = []
 posted d (Close i k) = []
+posted d (Settle i) = nets_on d i
+posted d (Adjust f i n) = adjustment d f i n
+
+-- the posts of amounts that were taken, in their order: those that are not zero, by rising account; none where they were refused
+abbrev pub posts_of : {X : Type 0} → List ℤ → Result X Refusal → List Post
+posts_of xs (Ok a) = row_posts 0 xs
+posts_of xs (Err f) = []
+
+-- the posts that a call made
+abbrev pub made_posts : {X : Type 0} → Day → Call → Result X Refusal → List Post
+made_posts d c r = posts_of (posted d c) r
 
 -- the ledger after amounts were posted; as it was where there are none
 abbrev pub Moves : View → List ℤ → View → Type 0

@@ -45,6 +45,14 @@ pub enum Call<'a> {
         interval: u32,
         rungs: usize,
     },
+    Settle {
+        interval: u32,
+    },
+    Adjust {
+        facility: u32,
+        interval: u32,
+        kwmin: u32,
+    },
 }
 
 // Whether a lodged submission equals the one in force.
@@ -63,4 +71,6 @@ pub enum Answer {
     Set,
     // The balancing price, and the marginal facility.
     Price { price: i64, facility: u32 },
+    // How many amounts were posted.
+    Posts(usize),
 }

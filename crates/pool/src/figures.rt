@@ -44,7 +44,7 @@ pub fn start(
     Ok(())
 }
 
-fn reading_in_span(kwmin: u32) -> Result<(), Refusal>
+pub fn reading_in_span(kwmin: u32) -> Result<(), Refusal>
     ensures { result ≡ figures 1 (reading_fits kwmin ∷ []) }
 {
     figure(1, kwmin <= 30_000_000)

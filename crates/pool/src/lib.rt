@@ -2,7 +2,7 @@
 #![tactic(auto)]
 
 pub mod call;
-mod checks;
+pub mod checks;
 pub mod closing;
 mod curves;
 pub mod figures;

@@ -105,12 +105,16 @@ fn is_live(row: Row) -> bool {
 #[cfg(test)]
 mod tests {
     use super::*;
+    use ledger::accounts::Accounts;
+    use ledgers::table::AccountTable;
     use merit::rung::Rung;
     use pool::call::Lodged;
     use pool::closing::close;
     use pool::figures::{demand, position, reading, start};
     use pool::lodging::lodge;
     use pool::opening::{open, register as enter};
+    use settlement::adjusting::adjust;
+    use settlement::settling::settle;
 
     #[test]
     fn registering(rt: HostRuntime) {
@@ -495,5 +499,54 @@ mod tests {
         row = settled();
         row.demand = None;
         assert!(rt; !has_state(row), "no price");
+    }
+
+    #[test]
+    fn settling(rt: HostRuntime) {
+        let register = open_day();
+        let mut table = AccountTable::new();
+        let mut rows = [Row::blank(); 49];
+        assert!(rt; is_refused(settle(&register, &mut rows, 49, &mut table), 2, 49));
+        let mut row = settled();
+        row.state = State::Closed;
+        row.figures[1].reading = None;
+        row.positions[10] = Position {
+            contract: 5,
+            load: 0,
+        };
+        rows[47] = row;
+        assert!(rt; is_refused(settle(&register, &mut rows, 48, &mut table), 9, 2));
+        row.figures[1].reading = Some(600);
+        rows[47] = row;
+        assert!(rt; is_refused(settle(&register, &mut rows, 48, &mut table), 11, 48));
+        row.demand = None;
+        rows[47] = row;
+        assert!(rt;
+            is_refused(settle(&register, &mut rows, 48, &mut table), 5, 48),
+            "no price"
+        );
+        assert!(rt; table.balance(2) == Some(0));
+    }
+
+    #[test]
+    fn adjusting(rt: HostRuntime) {
+        let register = open_day();
+        let mut table = AccountTable::new();
+        let mut rows = [settled(); 49];
+        assert!(rt; is_refused(adjust(&register, &mut rows, 9, 49, 0, &mut table), 2, 49));
+        rows[0].demand = None;
+        assert!(rt;
+            is_refused(
+                adjust(&register, &mut rows, 2, 1, 30_000_001, &mut table),
+                5,
+                1,
+            ),
+            "no price"
+        );
+        assert!(rt; adjust(&register, &mut rows, 2, 48, 600, &mut table) == Ok(2));
+        assert!(rt;
+            rows[47].figures[1].reading == Some(600) && rows[46].figures[1].reading == Some(0)
+        );
+        assert!(rt; table.balance(0) == Some(-32) && table.balance(2) == Some(32));
     }
 }

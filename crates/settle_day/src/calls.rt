@@ -4,6 +4,7 @@ ghost use Rattle.std.specs.Result.{result_map_both as mapped_both};
 ghost use Rattle.pool.specs.declared.call.Answer.TheVariants.{Set};
 
 use day_text::line::DayLine;
+use ledger::accounts::Ledger;
 use merit::rung::{RUNGS, Rung};
 use offers::pair::Pair;
 use pool::call::{Answer, Call};
@@ -12,6 +13,8 @@ use pool::figures::{demand, position, reading, start};
 use pool::lodging::lodge;
 use pool::opening::{open, register as add};
 use refusals::Refusal;
+use settlement::adjusting::adjust;
+use settlement::settling::settle;
 use sheets::facility::Prices;
 use sheets::register::Register;
 use sheets::row::{Position, Row};
@@ -43,7 +46,7 @@ fn plain_call<'a>(line: DayLine) -> Option<Call<'a>> {
             interval,
             rungs: RUNGS,
         }),
-        // Settling and adjusting are not there yet.
+        // Lines that settle or adjust are not taken yet.
         _ => None,
     }
 }
@@ -100,7 +103,12 @@ fn set(res: Result<(), Refusal>) -> Result<Answer, Refusal>
 }
 
 // Makes the call.
-pub fn make(register: &mut Register, rows: &mut [Row], call: Call) -> Result<Answer, Refusal> {
+pub fn make<L: Ledger>(
+    register: &mut Register,
+    rows: &mut [Row],
+    ledger: &mut L,
+    call: Call,
+) -> Result<Answer, Refusal> {
     match call {
         Call::Register {
             account,
@@ -155,6 +163,18 @@ pub fn make(register: &mut Register, rows: &mut [Row], call: Call) -> Result<Ans
             let lent = rungs.min(RUNGS);
             let (price, facility) = close(register, rows, interval, &mut working[0..lent])?;
             Ok(Answer::Price { price, facility })
+        }
+        Call::Settle { interval } => {
+            let posts = settle(register, rows, interval, ledger)?;
+            Ok(Answer::Posts(posts))
+        }
+        Call::Adjust {
+            facility,
+            interval,
+            kwmin,
+        } => {
+            let posts = adjust(register, rows, facility, interval, kwmin, ledger)?;
+            Ok(Answer::Posts(posts))
         }
     }
 }

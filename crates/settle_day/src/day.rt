@@ -100,7 +100,12 @@ impl Day {
             said => match call_of(said, memory) {
                 Some(call) => {
                     self.stage = Stage::Calls;
-                    Said::Answer(make(&mut self.register, self.rows.as_mut_slice(), call))
+                    Said::Answer(make(
+                        &mut self.register,
+                        self.rows.as_mut_slice(),
+                        &mut self.ledger,
+                        call,
+                    ))
                 }
                 None => self.not_a_call(),
             },

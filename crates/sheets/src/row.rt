@@ -2,7 +2,7 @@
 ghost use Rattle.std.specs.Prelude.{◌≡◌, ◌≤◌, true, List, length, Some};
 ghost use Rattle.sheets.specs.declared.facility.Facility.{Facility};
 ghost use Rattle.sheets.specs.declared.facility.Prices.{Prices};
-ghost use Rattle.sheets.specs.Sheets.{sheet_sound, blank_row};
+ghost use Rattle.sheets.specs.Sheets.{complete, sheet_sound, blank_row};
 
 use offers::submission::Submission;
 
@@ -46,6 +46,15 @@ pub enum Event {
     Close,
     Settle,
     Adjust,
+}
+
+impl Figures {
+    // Whether settling finds all that it asks for: a reading, and a start where there is a submission.
+    pub fn is_complete(&self) -> bool
+        ensures { result ≡ complete self.now }
+    {
+        self.reading.is_some() && (self.submission.is_none() || self.start.is_some())
+    }
 }
 
 impl Row {

@@ -128,17 +128,11 @@ fn offer_of(submission: Option<Submission>) -> u64
     }
 }
 
-fn is_complete(x: Figures) -> bool
-    ensures { result ≡ complete x }
-{
-    x.reading.is_some() && (x.submission.is_none() || x.start.is_some())
-}
-
 pub fn all_complete(table: &[Figures]) -> bool
     ensures { result ≡ all complete table.now }
 {
     for x in table {
-        if !is_complete(*x) {
+        if !x.is_complete() {
             return false;
         }
     }

@@ -2,7 +2,7 @@
 ghost use Rattle.std.specs.Prelude.{◌≡◌, ◌≤◌, length};
 ghost use Rattle.std.specs.Option.{ok_or};
 ghost use Rattle.refusals.specs.declared.Refusal.TheVariants as refusal;
-ghost use Rattle.sheets.specs.Sheets.{sheet_sound, next, offers};
+ghost use Rattle.sheets.specs.Sheets.{sheet_sound, next, offers, has_load};
 ghost use Rattle.sheets.specs.Held.{known};
 ghost use Rattle.sheets.specs.Changes.{Becomes, table};
 
@@ -10,7 +10,7 @@ use crate::facility::Facility;
 use crate::register::Register;
 use crate::row::{Event, Figures, Position, Row, State};
 use crate::sheet::Sheet;
-use crate::sound::{demand_fits, offers_of, positions_fit, stage_sound, table_sound};
+use crate::sound::{any_load, demand_fits, offers_of, positions_fit, stage_sound, table_sound};
 use refusals::Refusal;
 
 fn row_sound(register: &Register, row: &Row) -> bool
@@ -85,6 +85,13 @@ impl<'a> Sheet<'a> {
         ensures { result.now ≡ self.now.row.positions }
     {
         &self.row.positions
+    }
+
+    // Whether somebody has a load.
+    pub fn has_load(&self) -> bool
+        ensures { result ≡ has_load self.now.row.positions }
+    {
+        any_load(&self.row.positions)
     }
 
     pub fn demand(&self) -> Option<u32>

@@ -1,7 +1,7 @@
 use Rattle.std.proofs.Common.{take}
-use Rattle.ledger.specs.Rows.{posts, Moved}
+use Rattle.ledger.specs.Rows.{posts, Moved, row_posts}
 use Rattle.ledger.proofs.Moves.{up_to}
 use Rattle.ledger.proofs.row.post_each.Given as goal
 
 abbrev pub invariant-loop-i : goal.invariant-loop-i
-invariant-loop-i g l = Moved (g.L.Accounts.view l.initial.ledger) (up_to l.amounts l.i) (posts (take l.i l.amounts)) (g.L.Accounts.view l.ledger)
+invariant-loop-i g l = g.L.Ledger.took l.initial.ledger (row_posts 0 (take l.i l.amounts)) l.ledger × Moved (g.L.Accounts.view l.initial.ledger) (up_to l.amounts l.i) (posts (take l.i l.amounts)) (g.L.Accounts.view l.ledger)

@@ -11,5 +11,5 @@ returns g c =
     let xs = c.args.amounts.now in
     let n = c.in_ok-n.n in
     let checked = row_taken v xs n c.in_ok-n.ensures in
-    let done : RowAnswered v xs (Ok n) w = (checked.0, checked.1, c.post_each.ensures) in
-    record { answered = done; conserved = row_conserves v xs (Ok n) w done }
+    let done : RowAnswered v xs (Ok n) w = (checked.0, checked.1, c.post_each.ensures.moved) in
+    record { answered = done; took = c.post_each.ensures.took; conserved = row_conserves v xs (Ok n) w done }

@@ -1,4 +1,4 @@
-use Rattle.std.proofs.Common.{◌≡◌, None, sym, w64, SFits}
+use Rattle.std.proofs.Common.{◌≡◌, None, sym, refl, w64, SFits}
 use Rattle.std.proofs.lemmas.Int.{to_z-of_z}
 use Rattle.ledger.specs.Posting.{refusal}
 use Rattle.ledgers.specs.Limits.{limited}
@@ -14,4 +14,4 @@ returns g c =
     let x = c.args.cents in
     let k : SFits w64 x = c.ranges.cents in
     let ok : refusal (limited ls v) a x ≡ None = sym (simp to_z-of_z at c.in_default.ensures) in
-    answered_below ls v a x ok c.post.result w (simp to_z-of_z at c.post.ensures)
+    record { answered = answered_below ls v a x ok c.post.result w (simp to_z-of_z at c.post.ensures.answered); took = (simp to_z-of_z at c.post.ensures.took, refl {a = ls}) }

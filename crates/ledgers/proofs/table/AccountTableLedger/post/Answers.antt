@@ -30,4 +30,4 @@ returns c =
     let ok : refusal (table_view zs) a x ≡ None = sym (simp to_z-of_z at c.in_default.ensures) in
     let span = taken_in_span (table_view zs) a x (table_sound zs c.args.self.now.spans) ok in
     let m : SFits w64 (get_or zs a (pos 0) +ℤ x) = span_fits (get_or zs a (pos 0) +ℤ x) span in
-    (ok, simp to_z-of_z (table_posted zs a x inside))
+    record { answered = (ok, simp to_z-of_z (table_posted zs a x inside)); took = tt }

@@ -33,4 +33,4 @@ returns c =
     let ok : refusal (steps_view zs s.left) a x ≡ None = sym (simp to_z-of_z at c.in_default.ensures) in
     let span = taken_in_span (steps_view zs s.left) a x (steps_sound zs s.left s.spans s.few) ok in
     let m : SFits w64 (get_or zs a (pos 0) +ℤ x) = span_fits (get_or zs a (pos 0) +ℤ x) span in
-    (ok, simp to_z-of_z (steps_posted zs s.left a x inside (taken_because (steps_view zs s.left) a x ok).1))
+    record { answered = (ok, simp to_z-of_z (steps_posted zs s.left a x inside (taken_because (steps_view zs s.left) a x ok).1)); took = tt }

@@ -1,0 +1,7 @@
+pub mod Worked
+pub mod Balance
+pub mod Spans
+pub mod Summing
+pub mod Bounds
+pub mod Levies
+pub mod Tallies

@@ -1,0 +1,6 @@
+pub mod Sums
+pub mod Amounts
+pub mod Sheets
+pub mod Tallies
+pub mod Claims
+pub mod Figures

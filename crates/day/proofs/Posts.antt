@@ -1,0 +1,55 @@
+-- What a ledger took of a list of calls, beyond what is seen of it.
+use Rattle.std.proofs.Common.{◌≡◌, List, [], ◌∷◌, ◌++◌, ℤ, Ok, Err, Result, sym, refl, ap, ◌∙◌, subst}
+use Rattle.std.proofs.lemmas.List.{append_assoc, append-nil}
+use Rattle.std.specs.Result.{result_map_both as mapped_both}
+use Rattle.ledger.specs.View.{View}
+use Rattle.ledger.specs.Posting.{Post}
+use Rattle.refusals.specs.declared.Refusal.{Refusal}
+use Rattle.pool.specs.declared.call.Call.{Call}
+use Rattle.pool.specs.declared.call.Answer.{Answer}
+use Rattle.pool.specs.Day.{Day, posts_of, made_posts, Does}
+use Rattle.day.specs.Book.{Book, Answered, noted, fed, told}
+use Rattle.day.specs.Law.{Goes, day_after, posts_made, written}
+use Rattle.day.proofs.Pages.{told_after}
+
+-- a call without amounts makes no post
+pub no_posts : (r : Answered) → [] ≡ posts_of [] r
+no_posts (Ok a) = refl
+no_posts (Err f) = refl
+
+-- nor does the form of its answer matter
+pub posts_alike : {X : Type 0} (wrap : X → Answer) (xs : List ℤ) (r : Result X Refusal) (s : Answered) → s ≡ mapped_both wrap (λ f. f) r → posts_of xs r ≡ posts_of xs s
+posts_alike wrap xs (Ok x) s h = ap (posts_of xs) (sym h)
+posts_alike wrap xs (Err f) s h = ap (posts_of xs) (sym h)
+
+-- ---- from the day to the book
+told_next : (b : Book) (c : Call) (r : Answered) → day_after (told b) c r ≡ told (fed b c r)
+told_next b c (Ok a) = told_after b c
+told_next b c (Err f) = refl
+
+pub posts_written : (b : Book) (cs : List Call) (rs : List Answered) → posts_made (told b) cs rs ≡ written b cs rs
+posts_written b [] rs = refl
+posts_written b (c ∷ cs) [] = refl
+posts_written b (c ∷ cs) (r ∷ rs) =
+    ap (λ ps. made_posts (told b) c r ++ ps) (ap (λ d. posts_made d cs rs) (told_next b c r) ∙ posts_written (fed b c r) cs rs)
+
+-- ---- one call more
+did : (d : Day) (v : View) (c : Call) (r : Answered) (e : Day) (w : View) → Does (λ x. x) d v c r e w → e ≡ day_after d c r
+did d v c (Ok a) e w t = t.changes
+did d v c (Err f) e w t = t.same
+
+posts_push : (d : Day) (v : View) (cs : List Call) (rs : List Answered) (e : Day) (w : View) (c : Call) (r : Answered) → Goes d v cs rs e w →
+    posts_made d (cs ++ c ∷ []) (rs ++ r ∷ []) ≡ posts_made d cs rs ++ made_posts e c r
+posts_push d v [] [] e w c r g = append-nil (made_posts d c r) ∙ ap (λ k. made_posts k c r) (sym g.0)
+posts_push d v [] (a ∷ rs) e w c r g = absurd g
+posts_push d v (k ∷ cs) [] e w c r g = absurd g
+posts_push d v (k ∷ cs) (a ∷ rs) e w c r g =
+    let on : day_after d k a ≡ g.0 = sym (did d v k a g.0 g.1.0 g.1.1.1.0) in
+    let rest = ap (λ f. posts_made f (cs ++ c ∷ []) (rs ++ r ∷ [])) on ∙ posts_push g.0 g.1.0 cs rs e w c r g.1.1.1.1 in
+    ap (λ ps. made_posts d k a ++ ps) (rest ∙ ap (λ f. posts_made f cs rs ++ made_posts e c r) (sym on))
+    ∙ sym (append_assoc (made_posts d k a) (posts_made (day_after d k a) cs rs) (made_posts e c r))
+
+pub took_push : {X : Type 0} (took : X → List Post → X → Type 0) (more : (x y z : X) (ps qs : List Post) → took x ps y → took y qs z → took x (ps ++ qs) z)
+    (x y z : X) (d : Day) (v : View) (cs : List Call) (rs : List Answered) (e : Day) (w : View) (c : Call) (r : Answered) → Goes d v cs rs e w →
+    took x (posts_made d cs rs) y → took y (made_posts e c r) z → took x (posts_made d (cs ++ c ∷ []) (rs ++ r ∷ [])) z
+took_push took more x y z d v cs rs e w c r g s t = subst (λ ps. took x ps z) (sym (posts_push d v cs rs e w c r g)) (more x y z (posts_made d cs rs) (made_posts e c r) s t)

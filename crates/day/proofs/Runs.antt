@@ -1,0 +1,174 @@
+-- A list of calls, each by its own contract, follows the law.
+use Rattle.std.proofs.Common.{◌≡◌, ℕ, zero, suc, ◌+◌, ◌<◌, ltb, List, [], ◌∷◌, ◌++◌, map, length, get_or, take, replicate, ℤ, pos, ◌+ℤ◌, ◌-ℤ◌, Some, None, Ok, Err, Option, sym, refl, ap, ◌∙◌, subst, arith}
+use lib.IntN.{+ℤ_idr}
+use Rattle.std.specs.List.{AllByRecursion as All}
+use Rattle.std.proofs.lemmas.List.{take_more}
+use Rattle.std.proofs.lemmas.Int.{ints}
+use Rattle.std.proofs.lemmas.Bool.{le-ltb, cond-false}
+use Rattle.ledger.specs.declared.row.RowRefusal.{RowRefusal}
+use Rattle.ledger.specs.View.{View, Sound}
+use Rattle.ledger.specs.Rows.{amount, posts, first_refused, row_refusal, Gained}
+use Rattle.ledger.specs.Sums.{ledger_sum, row_sum}
+use Rattle.ledger.proofs.Moves.{gained_as, gained_same, gained_then}
+use Rattle.ledger.proofs.Totals.{ledger_sum_gained, sum_of_taken}
+use Rattle.sheets.specs.declared.register.Register as registers
+use Rattle.sheets.specs.declared.row.Row.{Row}
+use Rattle.sheets.specs.Held.{known}
+use Rattle.sheets.specs.Sheets.{blank_row}
+use Rattle.amounts.specs.Claims.{NetsBalance}
+use Rattle.pool.specs.declared.call.Call.{Call}
+use Rattle.pool.specs.declared.call.Call.TheVariants.{Register, Open, Lodge, Start, Reading, Position, Demand, Close, Settle, Adjust}
+use Rattle.pool.specs.Day.{Day, Does, not_refused, checks, table, posted, Moves}
+use Rattle.pool.specs.Held.{held}
+use Rattle.day.specs.Book.{Book, Answered, blank, blank_page, noted, fed, kept, told_page, told}
+use Rattle.day.specs.Law.{gains, Heeds, Follows, Law, Goes}
+use Rattle.day.proofs.Pages.{told_after}
+use Rattle.day.proofs.Passed.{passed}
+use Rattle.day.proofs.Standing.{Standing, standing_blank, standing_noted}
+use Rattle.day.proofs.Settled.{standing_whole, standing_least, posted_sum}
+use Rattle.day.proofs.Gains.{gains_noted, blank_gains}
+
+-- ---- what a taken call posts
+none_refused : (v : View) → row_refusal v [] ≡ None
+unfolding row_refusal
+none_refused v = cond-false (ltb v.places 0) _ None (le-ltb v.places 0 (omega arith))
+
+not_refused_none : (o : Option RowRefusal) → not_refused o ≡ Ok tt → o ≡ None
+not_refused_none None e = refl
+not_refused_none (Some r) e = cc
+
+-- the ledger takes it
+posted_taken : (d : Day) (v : View) (c : Call) → table d v c ≡ Ok tt → row_refusal v (posted d c) ≡ None
+posted_taken d v (Register a x c t) e = none_refused v
+posted_taken d v (Open lo hi) e = none_refused v
+posted_taken d v (Lodge f i u w ps) e = none_refused v
+posted_taken d v (Start f i n) e = none_refused v
+posted_taken d v (Reading f i n) e = none_refused v
+posted_taken d v (Position a i c l) e = none_refused v
+posted_taken d v (Demand i n) e = none_refused v
+posted_taken d v (Close i k) e = none_refused v
+posted_taken d v (Settle i) e = not_refused_none _ (passed (checks d v (Settle i)) e).1.1.1.1.1.0
+posted_taken d v (Adjust f i n) e = not_refused_none _ (passed (checks d v (Adjust f i n)) e).1.1.1.1.1.0
+
+moves_gained : (v w : View) (xs : List ℤ) → Moves v xs w → Gained v (amount xs) w
+moves_gained v w [] m = gained_same v w m
+moves_gained v w (x ∷ xs) m = m.gained
+
+moves_sum : (v w : View) (xs : List ℤ) → row_refusal v xs ≡ None → row_sum xs ≡ pos 0 → Moves v xs w → ledger_sum w ≡ ledger_sum v
+moves_sum v w xs ok z m = ledger_sum_gained v w (amount xs) (moves_gained v w xs m) ∙ ap (λ s. ledger_sum v +ℤ s) (sum_of_taken v xs ok ∙ z) ∙ +ℤ_idr (ledger_sum v)
+
+-- ---- one call on what the book tells
+-- what an account gains from one book to another
+between : Book → Book → ℕ → ℤ
+between b k a = gains k.facilities a k.pages -ℤ gains b.facilities a b.pages
+
+record Step (b : Book) (v : View) (c : Call) (r : Answered) (f : Day) (u : View) : Type 0 where
+  sum : ledger_sum u ≡ ledger_sum v
+  heeds : Heeds b v c r u
+  holds : f ≡ told (fed b c r)
+  gained : Gained v (between b (fed b c r)) u
+  standing : Standing (fed b c r)
+
+less_is : (x y z : ℤ) → x ≡ y +ℤ z → x -ℤ y ≡ z
+less_is x y z e = omega (arith, ints)
+
+less_same : (x : ℤ) → x -ℤ x ≡ pos 0
+less_same x = omega (arith, ints)
+
+less_then : (x y z : ℤ) → z -ℤ x ≡ (y -ℤ x) +ℤ (z -ℤ y)
+less_then x y z = omega (arith, ints)
+
+still_gained : (b : Book) (v w : View) → w ≡ v → Gained v (between b b) w
+unfolding between
+still_gained b v w e = gained_as v w (λ _. pos 0) (between b b) (λ a. less_same (gains b.facilities a b.pages)) (gained_same v w e)
+
+stepped : NetsBalance → (b : Book) (v : View) (c : Call) (r : Answered) (f : Day) (u : View) → Standing b → Does (λ x. x) (told b) v c r f u → Step b v c r f u
+unfolding between
+stepped balance b v c (Ok a) f u s t = record {
+  sum = moves_sum v u (posted (told b) c) (posted_taken (told b) v c t.passes) (posted_sum balance b v c s t.passes) t.moves;
+  heeds = (t.passes, (t.answers, t.moves));
+  holds = t.changes ∙ told_after b c;
+  gained = gained_as v u (amount (posted (told b) c)) (between b (noted b c)) (λ k. less_is _ _ _ (gains_noted b v k c s t.passes)) (moves_gained v u (posted (told b) c) t.moves);
+  standing = standing_noted b v c s t.passes;
+}
+stepped balance b v c (Err e) f u s t = record {
+  sum = ap ledger_sum t.still;
+  heeds = (t.fails, t.still);
+  holds = t.same;
+  gained = still_gained b v u t.still;
+  standing = s;
+}
+
+-- ---- a list of calls
+record Facts (b : Book) (v : View) (cs : List Call) (rs : List Answered) (d : Day) (w : View) : Type 0 where
+  sum : ledger_sum w ≡ ledger_sum v
+  heeded : Follows b v cs rs w
+  holds : d ≡ told (kept b cs rs)
+  gained : Gained v (between b (kept b cs rs)) w
+  standing : Standing (kept b cs rs)
+
+facts : NetsBalance → (b : Book) (v : View) (cs : List Call) (rs : List Answered) (d e : Day) (w : View) → Standing b → d ≡ told b → Goes d v cs rs e w → Facts b v cs rs e w
+unfolding between
+facts balance b v [] [] d e w s h g = record { sum = ap ledger_sum g.1; heeded = g.1; holds = g.0 ∙ h; gained = still_gained b v w g.1; standing = s }
+facts balance b v [] (r ∷ rs) d e w s h g = absurd g
+facts balance b v (c ∷ cs) [] d e w s h g = absurd g
+facts balance b v (c ∷ cs) (r ∷ rs) d e w s h g =
+    let f = g.0 in
+    let u = g.1.0 in
+    let one = stepped balance b v c r f u s (subst (λ (k : Day). Does (λ x. x) k v c r f u) h g.1.1.1.0) in
+    let k = fed b c r in
+    let rest = facts balance k u cs rs f e w one.standing one.holds g.1.1.1.1 in
+    let end = kept k cs rs in
+    record {
+      sum = rest.sum ∙ one.sum;
+      heeded = (u, (g.1.1.0, (one.heeds, rest.heeded)));
+      holds = rest.holds;
+      gained = gained_as v w (λ a. between b k a +ℤ between k end a) (between b end)
+          (λ a. less_then (gains b.facilities a b.pages) (gains k.facilities a k.pages) (gains end.facilities a end.pages))
+          (gained_then v u w (between b k) (between k end) one.gained rest.gained);
+      standing = rest.standing;
+    }
+
+less_none : (x y : ℤ) → y ≡ pos 0 → x ≡ x -ℤ y
+less_none x y e = omega (arith, ints)
+
+pub lawful : NetsBalance → (n : ℕ) (v : View) (cs : List Call) (rs : List Answered) (d e : Day) (w : View) → d ≡ told (blank n) → Goes d v cs rs e w → Law n v cs rs e w
+unfolding between
+lawful balance n v cs rs d e w h g =
+    let s = standing_blank n in
+    let t = facts balance (blank n) v cs rs d e w s h g in
+    let b = kept (blank n) cs rs in
+    record {
+      sum = t.sum;
+      heeded = t.heeded;
+      holds = t.holds;
+      gained = gained_as v w (between (blank n) b) (λ a. gains b.facilities a b.pages) (λ a. less_none _ _ (blank_gains [] [] a (blank n).pages s.pages)) t.gained;
+      whole = standing_whole b t.standing;
+      least = standing_least b t.standing;
+    }
+
+-- ---- one call more
+goes_push : (d : Day) (v : View) (cs : List Call) (rs : List Answered) (e : Day) (w : View) (c : Call) (r : Answered) (f : Day) (u : View) →
+    Goes d v cs rs e w → Sound u → Does (λ x. x) e w c r f u → Goes d v (cs ++ c ∷ []) (rs ++ r ∷ []) f u
+goes_push d v [] [] e w c r f u g sound s =
+    let p : Does (λ x. x) d w c r f u = subst (λ (k : Day). Does (λ x. x) k w c r f u) g.0 s in
+    let q : Does (λ x. x) d v c r f u = subst (λ (k : View). Does (λ x. x) d k c r f u) g.1 p in
+    (f, (u, (sound, (q, (refl, refl)))))
+goes_push d v [] (a ∷ rs) e w c r f u g sound s = absurd g
+goes_push d v (k ∷ cs) [] e w c r f u g sound s = absurd g
+goes_push d v (k ∷ cs) (a ∷ rs) e w c r f u g sound s =
+    (g.0, (g.1.0, (g.1.1.0, (g.1.1.1.0, goes_push g.0 g.1.0 cs rs e w c r f u g.1.1.1.1 sound s))))
+
+-- one turn of the loop over the calls
+pub goes_more : (all : List Call) (i : ℕ) (d : Day) (v : View) (rs : List Answered) (e : Day) (w : View) (r : Answered) (more : List Answered) (f : Day) (u : View) →
+    i < length all → Goes d v (take i all) rs e w → Sound u → Does (λ x. x) e w (get_or all i (Register 0 0 0 0)) r f u → more ≡ rs ++ r ∷ [] → Goes d v (take (i + 1) all) more f u
+goes_more all i d v rs e w r more f u h g sound s p =
+    rw (take_more all i (Register 0 0 0 0) h, p) (goes_push d v (take i all) rs e w (get_or all i (Register 0 0 0 0)) r f u g sound s)
+
+-- ---- register and sheets that are blank
+told_blank : (n : ℕ) → replicate n blank_row ≡ map told_page (replicate n blank_page)
+told_blank zero = refl
+told_blank (suc n) = ap (λ rows. blank_row ∷ rows) (told_blank n)
+
+pub blank_held : (g : registers.Register) (rows : List Row) (n : ℕ) → known g ≡ [] → g.prices ≡ None → rows ≡ replicate n blank_row → held g rows ≡ told (blank n)
+blank_held g rows n none shut all = λ t. record { facilities = none t; prices = shut t; rows = (all ∙ told_blank n) t }

@@ -1,0 +1,94 @@
+// One call of a list.
+ghost use Rattle.ledger.specs.View.{View};
+ghost use Rattle.pool.specs.declared.call.Call.TheVariants as calls;
+ghost use Rattle.pool.specs.Day.{Does, made_posts};
+ghost use Rattle.pool.specs.Held.{held};
+
+use crate::answers::{lodging, number, opened, posts, price, set};
+use ledger::accounts::Ledger;
+use merit::rung::{RUNGS, Rung};
+use pool::call::{Answer, Call};
+use pool::closing::close;
+use pool::figures::{demand, position, reading, start};
+use pool::lodging::lodge;
+use pool::opening::{open, register as add};
+use refusals::Refusal;
+use settlement::adjusting::adjust;
+use settlement::settling::settle;
+use sheets::facility::Prices;
+use sheets::register::Register;
+use sheets::row::{Position, Row};
+
+// A close with so many working rungs; more than 96 are as good as 96.
+fn close_with(
+    register: &Register,
+    rows: &mut [Row],
+    interval: u32,
+    rungs: usize,
+) -> Result<Answer, Refusal>
+    ensures { (v : View) → Does (λ x. x) (held register.now rows.old) v (calls.Close interval rungs) result (held register.now rows.new) v }
+{
+    let mut working = [Rung::blank(); RUNGS];
+    let lent = rungs.min(RUNGS);
+    price(close(register, rows, interval, &mut working[0..lent]))
+}
+
+// Makes the call.
+pub fn step<L: Ledger>(
+    register: &mut Register,
+    rows: &mut [Row],
+    ledger: &mut L,
+    call: &Call,
+) -> Result<Answer, Refusal>
+    ensures does { Does (λ x. x) (held register.old rows.old) (L.view ledger.old) call.now result (held register.new rows.new) (L.view ledger.new) }
+    ensures took { L.took ledger.old (made_posts (held register.old rows.old) call.now result) ledger.new }
+{
+    match *call {
+        Call::Register {
+            account,
+            loss_factor,
+            capacity,
+            tolerance,
+        } => number(add(register, account, loss_factor, capacity, tolerance)),
+        Call::Open { low, high } => opened(open(register, Prices { low, high })),
+        Call::Lodge {
+            facility,
+            interval,
+            ramp_up,
+            ramp_down,
+            pairs,
+        } => lodging(lodge(
+            register, rows, facility, interval, ramp_up, ramp_down, pairs,
+        )),
+        Call::Start {
+            facility,
+            interval,
+            kw,
+        } => set(start(register, rows, facility, interval, kw)),
+        Call::Reading {
+            facility,
+            interval,
+            kwmin,
+        } => set(reading(register, rows, facility, interval, kwmin)),
+        Call::Position {
+            account,
+            interval,
+            contract,
+            load,
+        } => set(position(
+            register,
+            rows,
+            account,
+            interval,
+            Position { contract, load },
+        )),
+        Call::Demand { interval, kw } => set(demand(register, rows, interval, kw)),
+        Call::Close { interval, rungs } => close_with(register, rows, interval, rungs),
+        Call::Settle { interval } => posts(settle(register, rows, interval, ledger)),
+        Call::Adjust {
+            facility,
+            interval,
+            kwmin,
+        } => posts(adjust(register, rows, facility, interval, kwmin, ledger)),
+    }
+}

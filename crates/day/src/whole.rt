@@ -1,0 +1,40 @@
+// A day from blank.
+ghost use Rattle.std.specs.Prelude.{◌≡◌, List, length, replicate, IfOk, Option, OnErr};
+ghost use Rattle.sheets.specs.declared.facility.Facility.{Facility};
+ghost use Rattle.sheets.specs.declared.facility.Prices.{Prices};
+ghost use Rattle.sheets.specs.Sheets.{blank_row};
+ghost use Rattle.day.specs.Book.{blank};
+ghost use Rattle.day.specs.Law.{Law, written};
+
+use crate::run::run;
+use ledger::accounts::Ledger;
+use pool::call::{Answer, Call};
+use refusals::Refusal;
+use sheets::register::Register;
+use sheets::row::Row;
+use std::alloc::{AllocError, Global};
+
+// Makes the sheets blank.
+fn clear(sheets: &mut [Row])
+    ensures { sheets.new ≡ replicate (length sheets.old) blank_row }
+{
+    for sheet in sheets.iter_mut() {
+        *sheet = Row::blank();
+    }
+}
+
+// The calls of a whole day, on sheets made blank and a register of its own. For want of memory no call is made.
+pub fn whole_day<L: Ledger>(
+    heap: Global,
+    sheets: &mut [Row],
+    ledger: &mut L,
+    calls: &[Call],
+) -> Result<Vec<Result<Answer, Refusal>>, AllocError>
+    ensures law { IfOk result (λ answers. (fs : List Facility) × ((o : Option Prices) × Law (length sheets.old) (L.view ledger.old) calls.now answers.items (record { facilities = fs; prices = o; rows = sheets.new }) (L.view ledger.new))) }
+    ensures written { IfOk result (λ answers. L.took ledger.old (written (blank (length sheets.old)) calls.now answers.items) ledger.new) }
+    ensures unmade { OnErr result ((sheets.new ≡ replicate (length sheets.old) blank_row) × (ledger.new ≡ ledger.old)) }
+{
+    let mut register = Register::blank();
+    clear(sheets);
+    run(heap, &mut register, sheets, ledger, calls)
+}

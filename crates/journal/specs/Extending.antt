@@ -1,0 +1,61 @@
+-- What posts leave in the memory: their lines behind those that stood there, and all else as it was.
+use Rattle.std.specs.Prelude.{◌≡◌, ℕ, ◌+◌, ◌≤◌, min, List, [], ◌∷◌, ◌++◌, map, length, take, drop, refl}
+use Rattle.std.proofs.Common.{arith, sym, ap, ◌∙◌}
+use Rattle.std.proofs.Math.Seq.{drop-append-add}
+use Rattle.std.proofs.lemmas.List.{append_assoc, append-nil, map-append, length-append, length-map, length-take-le, take-append-drop, take_at, drop-drop}
+use Rattle.ledger.specs.Posting.{Post}
+use Rattle.journal.specs.declared.line.Line.{Line}
+use Rattle.journal.specs.Lines.{room}
+
+abbrev pub line_of : Post → Line
+line_of p = record { account = p.account; cents = p.cents }
+
+abbrev pub lines_of : List Post → List Line
+lines_of ps = map line_of ps
+
+-- the first n lines stand, the lines of ps stand behind them, and the memory behind those is as it was
+pub record Extended (before : List Line) (n : ℕ) (ps : List Post) (after : List Line) (m : ℕ) : Type 0 where
+  pub used : m ≡ n + length ps
+  pub lines : after ≡ (take n before ++ lines_of ps) ++ drop m before
+
+pub extended_none : (ls : List Line) (n : ℕ) → Extended ls n [] ls n
+extended_none ls n = record {
+  used = omega arith;
+  lines = sym (ap (λ xs. xs ++ drop n ls) (append-nil (take n ls)) ∙ take-append-drop n ls);
+}
+
+module _ (xs : List Line) (n : ℕ) (ps : List Post) (ys : List Line) (m : ℕ) (within : n ≤ room xs) (g : Extended xs n ps ys m) where
+  abbrev front : List Line
+  front = take n xs ++ lines_of ps
+
+  front_length : length front ≡ m
+  front_length =
+      let a = length-append (take n xs) (lines_of ps) in
+      let b = length-take-le n xs (omega arith) in
+      let c = length-map ps line_of in
+      let d = g.used in
+      omega arith
+
+  front_stands : take m ys ≡ front
+  front_stands = ap (take m) g.lines ∙ take_at front (drop m xs) m front_length
+
+  module _ (qs : List Post) (zs : List Line) (k : ℕ) (h : Extended ys m qs zs k) where
+    behind : drop k ys ≡ drop k xs
+    behind =
+        let f = front_length in
+        let u = h.used in
+        let k_is : k ≡ length front + length qs = omega arith in
+        ap (drop k) g.lines
+        ∙ ap (λ j. drop j (front ++ drop m xs)) k_is
+        ∙ drop-append-add front (drop m xs) (length qs)
+        ∙ drop-drop (length qs) m xs
+        ∙ ap (λ j. drop j xs) (sym u)
+
+    joined : take m ys ++ lines_of qs ≡ take n xs ++ lines_of (ps ++ qs)
+    joined = ap (λ ls. ls ++ lines_of qs) front_stands ∙ append_assoc (take n xs) (lines_of ps) (lines_of qs) ∙ ap (λ ls. take n xs ++ ls) (sym (map-append line_of ps qs))
+
+    pub extended_more : Extended xs n (ps ++ qs) zs k
+    extended_more = record {
+      used = (let a = g.used in let b = h.used in let c = length-append ps qs in omega arith);
+      lines = h.lines ∙ ap (λ ls. ls ++ drop k ys) joined ∙ ap (λ ls. (take n xs ++ lines_of (ps ++ qs)) ++ ls) behind;
+    }

@@ -1,0 +1,32 @@
+// Lines entered into memory through a journal, and the memory as its owner finds it afterwards.
+ghost use Rattle.std.specs.Prelude.{◌≡◌, ◌≤◌, ◌++◌, length, drop};
+ghost use Rattle.ledger.specs.Rows.{row_taken_posts};
+ghost use Rattle.journal.specs.Extending.{lines_of};
+ghost use Rattle.journal.specs.Lines.{room, entered};
+
+use crate::journal::Journal;
+use crate::line::Line;
+use ledger::accounts::Ledger;
+use ledger::row::{RowRefusal, post_row};
+
+// Posts each line in its order, to a journal that is new in this memory; a line that the journal refuses is passed over.
+// It answers how many were taken: they stand in front, oldest first, and behind them the memory is as it was.
+pub fn enter_all(memory: &mut [Line], posts: &[Line]) -> usize
+    ensures count { result ≡ length (entered (room memory.old) posts.now) }
+    ensures few { result ≤ room memory.old }
+    ensures lines { memory.new ≡ entered (room memory.old) posts.now ++ drop result memory.old }
+{
+    let mut journal = Journal::new(memory);
+    for line in posts {
+        let _ = journal.post(line.account as usize, line.cents);
+    }
+    journal.used()
+}
+
+// Posts a row to a journal that is new in this memory: its amounts that are not zero, in rising order of account, or none.
+pub fn enter_row(memory: &mut [Line], amounts: &[i64; 12]) -> Result<usize, RowRefusal>
+    ensures { memory.new ≡ lines_of (row_taken_posts amounts.now result) ++ drop (length (row_taken_posts amounts.now result)) memory.old }
+{
+    let mut journal = Journal::new(memory);
+    post_row(&mut journal, amounts)
+}

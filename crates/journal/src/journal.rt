@@ -1,0 +1,119 @@
+// The journal: each post is a line in the caller's memory, and a balance is the sum of its account's lines.
+ghost use Rattle.std.specs.Prelude.{◌≡◌, ◌≤◌, length, take, refl};
+ghost use Rattle.std.proofs.Common.{◌∙◌};
+ghost use Rattle.ledger.specs.Posting.{Answered, taken};
+ghost use Rattle.journal.specs.Extending.{Extended, extended_none, extended_more};
+ghost use Rattle.journal.specs.Lines.{Running, Spans, room, journal_view, journal_sound, Written};
+
+use crate::line::Line;
+use ledger::accounts::{Accounts, Ledger, MOST};
+use ledger::reason::Reason;
+use ledger::row::refusal_of;
+
+const ACCOUNTS: usize = 12;
+
+// No more lines than these are used, however long the memory is.
+const LINES: usize = 4_096;
+
+#[derive(Drop)]
+pub struct Journal<'a> {
+    lines: &'a mut [Line],
+    used: usize,
+    // kept beside the lines, so that a balance costs no walk over them
+    balances: [i64; 12],
+    ghost within: { used ≤ room lines.now },
+    ghost slots: { length balances ≡ 12 },
+    ghost running: { Running balances (take used lines.now) },
+    ghost spans: { Spans (take used lines.now) },
+}
+
+impl<'a> Journal<'a> {
+    // A journal with no line yet, over the memory as it is.
+    pub fn new(lines: &'a mut [Line]) -> Journal<'a>
+        ensures lines { result.lines.now ≡ lines.old }
+        ensures used { result.used ≡ 0 }
+        ensures lender { result.lines.ghost_name ≡ lines.entry.ghost_name }
+    {
+        Journal {
+            lines,
+            used: 0,
+            balances: [0; 12],
+        }
+    }
+
+    // The lines written, oldest first.
+    pub fn posted(&self) -> &[Line]
+        ensures lines { result.now ≡ take self.now.used self.now.lines.now }
+        ensures count { length result.now ≡ self.now.used }
+    {
+        &self.lines[0..self.used]
+    }
+
+    // How many lines are written.
+    pub fn used(&self) -> usize
+        ensures { result ≡ self.now.used }
+    {
+        self.posted().len()
+    }
+}
+
+impl<'a> Accounts for Journal<'a> {
+    ghost view = { λ s. journal_view s.lines.now s.used };
+
+    ghost sound = { λ s. journal_sound s.lines.now s.used s.spans };
+
+    fn accounts(&self) -> usize {
+        ACCOUNTS
+    }
+
+    fn places(&self) -> u16 {
+        (self.lines.len().min(LINES) - self.used) as u16
+    }
+
+    fn balance(&self, account: usize) -> Option<i64> {
+        if account < ACCOUNTS {
+            Some(self.balances[account])
+        } else {
+            None
+        }
+    }
+
+    fn lowest(&self, account: usize) -> Option<i64> {
+        if account < ACCOUNTS {
+            Some(-MOST)
+        } else {
+            None
+        }
+    }
+
+    fn highest(&self, account: usize) -> Option<i64> {
+        if account < ACCOUNTS { Some(MOST) } else { None }
+    }
+}
+
+impl<'a> Ledger for Journal<'a> {
+    ghost took = { λ s ps t. Extended s.lines.now s.used ps t.lines.now t.used × (t.lines.ghost_name ≡ s.lines.ghost_name) };
+
+    ghost none = { λ s. (extended_none s.lines.now s.used, refl) };
+
+    ghost more = { λ s t u ps qs g h. (extended_more s.lines.now s.used ps t.lines.now t.used s.within g.0 qs u.lines.now u.used h.0, h.1 ∙ g.1) };
+
+    fn post(&mut self, account: usize, cents: i64) -> Result<(), Reason>
+        ensures answered { Answered (journal_view self.old.lines.now self.old.used) account cents result (journal_view self.new.lines.now self.new.used) }
+        ensures took { Extended self.old.lines.now self.old.used (taken account cents result) self.new.lines.now self.new.used × (self.new.lines.ghost_name ≡ self.old.lines.ghost_name) }
+        ensures written { Written self.old.lines.now self.old.used self.old.balances account cents result self.new.lines.now self.new.used self.new.balances }
+        ensures lender { self.new.lines.ghost_name ≡ self.old.lines.ghost_name }
+    {
+        if let Some(reason) = refusal_of(self, account, cents) {
+            return Err(reason);
+        }
+        let used = self.used;
+        self.lines[used] = Line {
+            account: account as u32,
+            cents,
+        };
+        self.balances[account] += cents;
+        self.used = used + 1;
+        Ok(())
+    }
+}

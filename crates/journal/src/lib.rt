@@ -1,0 +1,7 @@
+// A ledger in lent memory: lines of account and cents, written one behind the other.
+#![tactic(auto)]
+
+pub mod entry;
+pub mod journal;
+pub mod lent;
+pub mod line;

@@ -1,0 +1,42 @@
+// The call that corrects a reading of a settled sheet.
+ghost use Rattle.pool.specs.declared.call.Call.TheVariants as call;
+ghost use Rattle.pool.specs.declared.call.Answer.TheVariants as answer;
+ghost use Rattle.pool.specs.Day.{Does, made_posts};
+ghost use Rattle.pool.specs.Held.{held};
+
+use crate::posting::post_amounts;
+use amounts::nets::change;
+use ledger::accounts::Ledger;
+use pool::checks::{after_open, facility_place, sheet_for, sheet_place};
+use pool::figures::reading_in_span;
+use refusals::Refusal;
+use sheets::register::Register;
+use sheets::row::{Event, Row};
+
+// Corrects a reading of a settled sheet: what it changes of the nets is posted. It answers how many posts that took.
+pub fn adjust<L: Ledger>(
+    register: &Register,
+    rows: &mut [Row],
+    facility: u32,
+    interval: u32,
+    kwmin: u32,
+    ledger: &mut L,
+) -> Result<usize, Refusal>
+    ensures does { Does answer.Posts (held register.now rows.old) (L.view ledger.old) (call.Adjust facility interval kwmin) result (held register.now rows.new) (L.view ledger.new) }
+    ensures took { L.took ledger.old (made_posts (held register.now rows.old) (call.Adjust facility interval kwmin) result) ledger.new }
+{
+    after_open(register)?;
+    let at = sheet_place(rows, interval)?;
+    let place = facility_place(register, facility)?;
+    let sheet = sheet_for(register, rows[at], Event::Adjust, interval)?;
+    reading_in_span(kwmin)?;
+    let Some(corrected) = sheet.with_reading(place, kwmin) else {
+        unreachable()
+    };
+    let Some(changes) = change(&corrected, &sheet) else {
+        unreachable()
+    };
+    let posts = post_amounts(ledger, &changes)?;
+    rows[at] = corrected.row();
+    Ok(posts)
+}

@@ -1,0 +1,77 @@
+// The call that settles a sheet.
+ghost use Rattle.std.specs.Prelude.{◌≡◌, ◌≤◌, length};
+ghost use Rattle.refusals.specs.declared.Refusal.TheVariants as refusal;
+ghost use Rattle.sheets.specs.Sheets.{complete};
+ghost use Rattle.pool.specs.declared.call.Call.TheVariants as call;
+ghost use Rattle.pool.specs.declared.call.Answer.TheVariants as answer;
+ghost use Rattle.pool.specs.Checks.{unless};
+ghost use Rattle.pool.specs.Day.{Does, made_posts, figures_complete, load_there};
+ghost use Rattle.pool.specs.Held.{held};
+
+use crate::posting::post_amounts;
+use amounts::nets::nets;
+use ledger::accounts::Ledger;
+use pool::checks::{after_open, sheet_for, sheet_place};
+use refusals::Refusal;
+use sheets::register::Register;
+use sheets::row::{Event, Figures, Row};
+use sheets::sheet::Sheet;
+
+fn is_complete(figures: &Figures, number: u32) -> Result<(), Refusal>
+    ensures { result ≡ unless (complete figures.now) (refusal.Missing number) }
+{
+    if figures.is_complete() {
+        Ok(())
+    } else {
+        Err(Refusal::Missing(number))
+    }
+}
+
+// The figures of each facility, from number 1.
+fn all_complete(table: &[Figures]) -> Result<(), Refusal>
+    requires { length table.now ≤ 12 }
+    ensures { result ≡ figures_complete 1 table.now }
+{
+    let mut number = 1;
+    for figures in table {
+        is_complete(figures, number)?;
+        number += 1;
+    }
+    Ok(())
+}
+
+fn has_load(sheet: &Sheet, interval: u32) -> Result<(), Refusal>
+    ensures { result ≡ load_there sheet.now.row.positions interval }
+{
+    if sheet.has_load() {
+        Ok(())
+    } else {
+        Err(Refusal::NoLoad(interval))
+    }
+}
+
+// Settles a closed sheet: its nets are posted. It answers how many posts that took.
+pub fn settle<L: Ledger>(
+    register: &Register,
+    rows: &mut [Row],
+    interval: u32,
+    ledger: &mut L,
+) -> Result<usize, Refusal>
+    ensures does { Does answer.Posts (held register.now rows.old) (L.view ledger.old) (call.Settle interval) result (held register.now rows.new) (L.view ledger.new) }
+    ensures took { L.took ledger.old (made_posts (held register.now rows.old) (call.Settle interval) result) ledger.new }
+{
+    after_open(register)?;
+    let at = sheet_place(rows, interval)?;
+    let sheet = sheet_for(register, rows[at], Event::Settle, interval)?;
+    all_complete(sheet.figures())?;
+    has_load(&sheet, interval)?;
+    let Some(amounts) = nets(&sheet) else {
+        unreachable()
+    };
+    let Some(settled) = sheet.settled() else {
+        unreachable()
+    };
+    let posts = post_amounts(ledger, &amounts)?;
+    rows[at] = settled.row();
+    Ok(posts)
+}
