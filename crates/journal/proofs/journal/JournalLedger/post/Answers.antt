@@ -20,7 +20,7 @@ invariant_of-self c =
     let ok : refusal (journal_view ls u) a x ≡ None = sym (simp to_z-of_z at c.in_default.ensures) in
     let more = one_more ls u zs a x s.within s.slots s.running s.spans ok in
     let m : SFits w64 (get_or zs a (pos 0) +ℤ x) = more.fits in
-    simp to_z-of_z (more.within, (more.slots, (more.running, (more.spans, tt))))
+    simp to_z-of_z (record { within = more.within; slots = more.slots; running = more.running; spans = more.spans })
 
 pub returns : goal.returns
 returns c =
