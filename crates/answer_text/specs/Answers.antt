@@ -1,5 +1,5 @@
 -- How answers, refusals, balances and the lines of a journal are written.
-use Rattle.std.specs.Prelude.{ℕ, List, [], ◌∷◌, ◌++◌, ℤ, Some, None, Ok, Err, codes, decimal, Option, Result}
+use Rattle.std.specs.Prelude.{ℕ, List, [], ◌++◌, ℤ, Some, None, Ok, Err, codes, decimal, Option, Result}
 use Rattle.std.specs.Fmt.{signed_decimal}
 use Rattle.ledger.specs.declared.reason.Reason.{Reason}
 use Rattle.ledger.specs.Posting.{reason_number}

@@ -1,5 +1,5 @@
 -- The same call with its answer in another form, or with more working rungs than it needs.
-use Rattle.std.proofs.Common.{◌≡◌, ℕ, ◌<◌, ◌≤◌, min, Bool, true, leb, Ok, Err, Result, sym, refl, ap, ◌∙◌, subst, ⊎_elim, arith}
+use Rattle.std.proofs.Common.{◌≡◌, ℕ, ◌<◌, ◌≤◌, min, Bool, Ok, Err, Result, sym, ap, ◌∙◌, subst, ⊎_elim, arith}
 use Rattle.std.specs.Result.{result_map_both as mapped_both}
 use Rattle.std.proofs.lemmas.Bool.{cases_lt, le-leb}
 use Rattle.ledger.specs.View.{View}
@@ -9,7 +9,7 @@ use Rattle.sheets.specs.declared.row.Event.TheVariants as event
 use Rattle.pool.specs.declared.call.Call.{Call}
 use Rattle.pool.specs.declared.call.Call.TheVariants.{Close}
 use Rattle.pool.specs.declared.call.Answer.{Answer}
-use Rattle.pool.specs.Checks.{Check, first, unless, ◌then◌}
+use Rattle.pool.specs.Checks.{Check, unless, ◌then◌}
 use Rattle.pool.specs.Day.{Day, Does, table, is_open, interval_known, at_sheet, has_demand, demand_reached, figures_on, sheet}
 use Rattle.day.specs.Book.{Answered}
 

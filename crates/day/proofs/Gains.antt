@@ -1,5 +1,5 @@
 -- What a taken call posts is what the book's accounts gain by it.
-use Rattle.std.proofs.Common.{◌≡◌, ℕ, zero, suc, ◌+◌, ◌-◌, ◌<◌, ◌≤◌, Bool, true, false, cond, ltb, List, [], ◌∷◌, map, length, get_or, set, ℤ, pos, ◌+ℤ◌, ◌-ℤ◌, is_some, Some, None, Ok, Err, Option, sym, refl, ap, ◌∙◌, ⊎_elim, arith}
+use Rattle.std.proofs.Common.{◌≡◌, ℕ, zero, suc, ◌-◌, ◌<◌, ◌≤◌, true, false, cond, ltb, List, [], ◌∷◌, map, length, get_or, set, ℤ, pos, ◌+ℤ◌, ◌-ℤ◌, is_some, Some, None, Ok, Option, sym, refl, ap, ◌∙◌, ⊎_elim, arith}
 use Rattle.std.specs.List.{range_with_len, AllByRecursion as All}
 use Rattle.std.proofs.lemmas.List.FromFn.{get_or-map-range_with_len, length-map-range_with_len}
 use Rattle.std.proofs.lemmas.List.{get_or_past}
@@ -16,11 +16,11 @@ use Rattle.sheets.specs.declared.row.Event.{Event}
 use Rattle.sheets.specs.declared.row.Event.TheVariants as event
 use Rattle.sheets.specs.Sheets.{next, with_reading}
 use Rattle.amounts.specs.Amounts.{PricedSheet, net, nets}
-use Rattle.amounts.specs.Sheets.{priced_sheet, row_nets, changed}
+use Rattle.amounts.specs.Sheets.{row_nets, changed}
 use Rattle.pool.specs.declared.call.Call.{Call}
 use Rattle.pool.specs.declared.call.Call.TheVariants.{Register, Open, Lodge, Start, Reading, Position, Demand, Close, Settle, Adjust}
-use Rattle.pool.specs.Day.{Day, sheet, at_sheet, interval_known, checks, table, posted, adjustment, nets_on}
-use Rattle.day.specs.Book.{Page, Book, blank_page, no_page, page, keep, read, marked, noted, told_page, told}
+use Rattle.pool.specs.Day.{sheet, at_sheet, interval_known, checks, table, posted, adjustment, nets_on}
+use Rattle.day.specs.Book.{Page, Book, no_page, page, keep, read, marked, noted, told_page, told}
 use Rattle.day.specs.Law.{is_settled, priced_page, gain, gains}
 use Rattle.day.proofs.Pages.{page_told, read_told}
 use Rattle.day.proofs.Passed.{passed, shut_passed, interval_within, state_passed}

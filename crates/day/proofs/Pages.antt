@@ -8,8 +8,8 @@ use Rattle.sheets.specs.Sheets.{no_figures, figures_at, with_figures, offer_as, 
 use Rattle.offers.specs.Curves as curves
 use Rattle.pool.specs.declared.call.Call.{Call}
 use Rattle.pool.specs.declared.call.Call.TheVariants.{Register, Open, Lodge, Start, Reading, Position, Demand, Close, Settle, Adjust}
-use Rattle.pool.specs.Day.{Day, no_row, sheet, put, submitted, after}
-use Rattle.day.specs.Book.{Offer, Entry, Page, Book, absent, no_page, page, keep, entry, enter, offered, started, read, positioned, demanded, marked, noted, told_offer, told_entry, told_page, told}
+use Rattle.pool.specs.Day.{no_row, sheet, put, submitted, after}
+use Rattle.day.specs.Book.{Offer, Entry, Page, Book, absent, no_page, page, keep, enter, offered, started, read, noted, told_offer, told_entry, told_page, told}
 
 told_at : (es : List Entry) (k : ℕ) → get_or (map told_entry es) k no_figures ≡ told_entry (get_or es k absent)
 told_at [] k = refl

@@ -8,7 +8,7 @@ use Rattle.refusals.specs.declared.Refusal.{Refusal}
 use Rattle.pool.specs.declared.call.Call.{Call}
 use Rattle.pool.specs.declared.call.Answer.{Answer}
 use Rattle.pool.specs.Day.{Day, posts_of, made_posts, Does}
-use Rattle.day.specs.Book.{Book, Answered, noted, fed, told}
+use Rattle.day.specs.Book.{Book, Answered, fed, told}
 use Rattle.day.specs.Law.{Goes, day_after, posts_made, written}
 use Rattle.day.proofs.Pages.{told_after}
 

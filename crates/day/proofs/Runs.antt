@@ -1,13 +1,12 @@
 -- A list of calls, each by its own contract, follows the law.
-use Rattle.std.proofs.Common.{◌≡◌, ℕ, zero, suc, ◌+◌, ◌<◌, ltb, List, [], ◌∷◌, ◌++◌, map, length, get_or, take, replicate, ℤ, pos, ◌+ℤ◌, ◌-ℤ◌, Some, None, Ok, Err, Option, sym, refl, ap, ◌∙◌, subst, arith}
+use Rattle.std.proofs.Common.{◌≡◌, ℕ, zero, suc, ◌+◌, ◌<◌, ltb, List, [], ◌∷◌, ◌++◌, map, length, get_or, take, replicate, ℤ, pos, ◌+ℤ◌, ◌-ℤ◌, Some, None, Ok, Err, Option, refl, ap, ◌∙◌, subst, arith}
 use lib.IntN.{+ℤ_idr}
-use Rattle.std.specs.List.{AllByRecursion as All}
 use Rattle.std.proofs.lemmas.List.{take_more}
 use Rattle.std.proofs.lemmas.Int.{ints}
 use Rattle.std.proofs.lemmas.Bool.{le-ltb, cond-false}
 use Rattle.ledger.specs.declared.row.RowRefusal.{RowRefusal}
 use Rattle.ledger.specs.View.{View, Sound}
-use Rattle.ledger.specs.Rows.{amount, posts, first_refused, row_refusal, Gained}
+use Rattle.ledger.specs.Rows.{amount, row_refusal, Gained}
 use Rattle.ledger.specs.Sums.{ledger_sum, row_sum}
 use Rattle.ledger.proofs.Moves.{gained_as, gained_same, gained_then}
 use Rattle.ledger.proofs.Totals.{ledger_sum_gained, sum_of_taken}

@@ -1,5 +1,5 @@
 -- What every book holds that a day can come to: facilities in span, and each sheet with a state.
-use Rattle.std.proofs.Common.{◌≡◌, ℕ, zero, suc, ◌+◌, ◌-◌, ◌<◌, ◌≤◌, Bool, true, ltb, leb, List, [], ◌∷◌, length, replicate, is_some, Some, None, Ok, Option, sym, refl, ap, ◌∙◌, subst, arith, length-append, length-set}
+use Rattle.std.proofs.Common.{◌≡◌, ℕ, zero, suc, ◌-◌, ◌<◌, ◌≤◌, Bool, true, ltb, leb, List, [], ◌∷◌, length, replicate, is_some, Some, None, Ok, Option, sym, refl, ap, ◌∙◌, subst, arith, length-append, length-set}
 use lib.ListN.{length-map}
 use Rattle.std.proofs.ByRecursion.{All-get_or, All-set, All-weaker}
 use Rattle.std.proofs.lemmas.List.{get_or-set_same}
@@ -13,20 +13,19 @@ use Rattle.offers.specs.Tests.{all}
 use Rattle.offers.proofs.Tests.{and_first, and_second, and_both}
 use Rattle.sheets.specs.declared.facility.Facility.{Facility}
 use Rattle.sheets.specs.declared.facility.Prices.{Prices}
-use Rattle.sheets.specs.declared.row.Figures.{Figures}
 use Rattle.sheets.specs.declared.row.Row.{Row}
 use Rattle.sheets.specs.declared.row.Event.{Event}
 use Rattle.sheets.specs.declared.row.Event.TheVariants as event
 use Rattle.sheets.specs.Tests.{if_some, every}
 use Rattle.sheets.specs.Spans.{account_fits, facility_figures, facility_sound, price_figures, prices_sound}
-use Rattle.sheets.specs.Sheets.{sheet_sound, next, complete, reaches, has_load, no_facility, demand_fits, contract_fits, load_fits, with_submission}
+use Rattle.sheets.specs.Sheets.{sheet_sound, next, reaches, has_load, no_facility, demand_fits, contract_fits, load_fits, with_submission}
 use Rattle.sheets.proofs.Lists.{all_push, all_at}
 use Rattle.sheets.proofs.Blank.{blank_sheet}
 use Rattle.sheets.proofs.Sheets.{sheet_read, sheet_lodge, sheet_start, sheet_demand, sheet_position, sheet_close, sheet_settle}
 use Rattle.pool.specs.declared.call.Call.{Call}
 use Rattle.pool.specs.declared.call.Call.TheVariants.{Register, Open, Lodge, Start, Reading, Position, Demand, Close, Settle, Adjust}
-use Rattle.pool.specs.Checks.{figures, unless}
-use Rattle.pool.specs.Day.{table, checks, sheet, put, no_row, at_sheet, interval_known, few_pairs, span, lodge_figures, facility_at, in_capacity, submitted, figures_on, figures_complete}
+use Rattle.pool.specs.Checks.{figures}
+use Rattle.pool.specs.Day.{table, checks, sheet, put, no_row, at_sheet, interval_known, few_pairs, span, lodge_figures, facility_at, in_capacity, submitted, figures_on}
 use Rattle.pool.proofs.Passing.{figures_pass, complete_pass}
 use Rattle.pool.proofs.Laying.{submitted_sound}
 use Rattle.day.specs.Book.{Page, Book, blank_page, blank, no_page, keep, noted, told_page, told}

@@ -14,10 +14,10 @@ use Rattle.offers.specs.Tests.{all}
 use Rattle.merit.specs.Prices.{priced_at}
 use Rattle.amounts.specs.Sums.{operation_of}
 use Rattle.amounts.specs.Amounts.{PricedSheet, net}
-use Rattle.amounts.specs.Sheets.{figures_of, balancing_price, priced_sheet}
+use Rattle.amounts.specs.Sheets.{figures_of, priced_sheet}
 use Rattle.pool.specs.declared.call.Call.{Call}
 use Rattle.pool.specs.Day.{Day, Does, table, answer, after, posted, made_posts, Moves}
-use Rattle.day.specs.Book.{Offer, Entry, Page, Book, Answered, blank, absent, fed, kept, told_offer, told_entry, told_page, told}
+use Rattle.day.specs.Book.{Offer, Page, Book, Answered, blank, absent, fed, kept, told_offer, told_entry, told_page, told}
 
 -- ---- each call
 -- Taken exactly where the table, read on the book and the ledger before the call, refuses nothing, with the answer that the book gives

@@ -59,7 +59,7 @@ fn worked_day(rt: HostRuntime) -> Result<(), Fail> {
     let calls = worked_calls(rt.alloc())?;
     let answers = day.make(&calls)?;
     assert!(rt;
-        answers
+        answers.as_slice()
             == [
                 Ok(Answer::Number(1)),
                 Ok(Answer::Number(2)),
@@ -80,6 +80,7 @@ fn worked_day(rt: HostRuntime) -> Result<(), Fail> {
                 Ok(Answer::Posts(3)),
                 Ok(Answer::Posts(4)),
             ]
+            .as_slice()
     );
     assert!(rt; day.balances() == CORRECTED);
     assert!(rt; day.total() == 0);
@@ -236,7 +237,7 @@ fn refused_and_repeated_calls(rt: HostRuntime) -> Result<(), Fail> {
         close,
     ])?;
     assert!(rt;
-        answers
+        answers.as_slice()
             == [
                 Ok(Answer::Lodging(Lodged::New)),
                 Ok(Answer::Lodging(Lodged::New)),
@@ -254,6 +255,7 @@ fn refused_and_repeated_calls(rt: HostRuntime) -> Result<(), Fail> {
                 Err(Refusal::State(1)),
                 Err(Refusal::State(1)),
             ]
+            .as_slice()
     );
     day.take(&figures(1, 700_000))?;
     day.take(&loads(1))?;

@@ -5,7 +5,7 @@ use Rattle.offers.specs.Tests.{all}
 use Rattle.sheets.specs.declared.row.Figures.{Figures}
 use Rattle.sheets.specs.Tests.{every}
 use Rattle.sheets.specs.Sheets.{complete}
-use Rattle.pool.specs.Checks.{Check, unless, told, figures, ◌then◌}
+use Rattle.pool.specs.Checks.{Check, unless, figures, ◌then◌}
 use Rattle.pool.specs.Day.{figures_complete}
 use Rattle.offers.proofs.Tests.{and_both}
 

@@ -190,7 +190,9 @@ impl<L: Ledger> Day<L> {
     pub fn take(&mut self, calls: &[Call]) -> Result<(), Fail> {
         let answers = self.make(calls)?;
         for answer in &answers {
-            assert!(answer.is_ok());
+            if answer.is_err() {
+                return Err(Fail::from("a call was refused"));
+            }
         }
         Ok(())
     }

@@ -1,4 +1,4 @@
-use Rattle.std.proofs.Common.{true, false, get_or, sym, ◌∙◌}
+use Rattle.std.proofs.Common.{get_or, sym, ◌∙◌}
 use Rattle.std.proofs.lemmas.Bool.{true≢false}
 use Rattle.schedule.specs.Spans.{station_fits}
 use Rattle.sheets.specs.Sheets.{no_facility}

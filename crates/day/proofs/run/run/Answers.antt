@@ -1,4 +1,4 @@
-use Rattle.std.proofs.Common.{◌≡◌, List, [], ◌∷◌, ◌++◌, length, get_or, take, vec_items, sym, ap, ◌∙◌, subst, take_all, rules}
+use Rattle.std.proofs.Common.{List, length, get_or, take, vec_items, sym, ap, ◌∙◌, subst, take_all, rules}
 use Rattle.std.proofs.lemmas.List.{take_more}
 use Rattle.ledger.specs.Posting.{Post}
 use Rattle.pool.specs.declared.call.Call.{Call}

@@ -1,4 +1,4 @@
-use Rattle.std.proofs.Common.{◌≡◌, true, ◌&&◌, sym, ap, ◌∙◌, rules}
+use Rattle.std.proofs.Common.{◌≡◌, true, sym, ap, ◌∙◌, rules}
 use Rattle.offers.specs.Tests.{all}
 use Rattle.offers.proofs.Tests.{and_both}
 use Rattle.sheets.specs.declared.row.Event.TheVariants as event

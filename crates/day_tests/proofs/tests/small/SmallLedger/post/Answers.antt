@@ -20,7 +20,7 @@ invariant_of-self c =
     let span = taken_in_span (small_view zs s.left) a x (small_sound zs s.left s.spans s.few) ok in
     let m : SFits w64 (get_or zs a (pos 0) +ℤ x) = span_fits (get_or zs a (pos 0) +ℤ x) span in
     let few : s.left - 1 ≤ 65535 = omega (arith, s.few) in
-    (span_set zs a _ inside s.spans (simp to_z-of_z span), (few, tt))
+    record { spans = span_set zs a _ inside s.spans (simp to_z-of_z span); few = few }
 
 pub returns : goal.returns
 returns c =
