@@ -1,6 +1,6 @@
 // The twelve nets of a sheet, and what a corrected sheet changes of them.
 ghost use Rattle.std.specs.Prelude.{◌≡◌, ◌≤◌, true, ℤ, pos, ◌+ℤ◌, ◌-ℤ◌, unsigned_abs};
-ghost use Rattle.std.specs.List.{AllByRecursion as All};
+ghost use Rattle.std.specs.List.{AllByRecursion};
 ghost use Rattle.ledger.specs.Sums.{row_sum};
 ghost use Rattle.sheets.specs.Sheets.{has_load};
 ghost use Rattle.amounts.specs.Amounts as amounts;
@@ -54,7 +54,7 @@ fn after_levy(amounts: Amounts, levy: u64) -> i64
 fn nets_at(sheet: &Sheet, price: BalancingPrice) -> [i64; 12]
     ensures value { result ≡ amounts.nets (held_at sheet.now price.cents) }
     ensures balance { has_load sheet.now.row.positions ≡ true → row_sum result ≡ pos 0 }
-    ensures small { All near result }
+    ensures small { AllByRecursion near result }
 {
     let tally = tally_up(sheet, price);
     let row = sheet.row();
@@ -77,8 +77,8 @@ pub fn nets(sheet: &Sheet) -> Option<[i64; 12]>
 }
 
 fn less(new: &[i64; 12], old: &[i64; 12]) -> [i64; 12]
-    requires new { All near new.now }
-    requires old { All near old.now }
+    requires new { AllByRecursion near new.now }
+    requires old { AllByRecursion near old.now }
     ensures { result ≡ changed new.now old.now }
 {
     let mut change = [0; 12];

@@ -1,6 +1,6 @@
 -- The law of the day, for every list of calls over every ledger.
 use Rattle.std.specs.Prelude.{◌≡◌, ℕ, ◌<◌, Bool, true, false, cond, List, [], ◌∷◌, ◌++◌, length, get_or, ℤ, pos, ◌+ℤ◌, is_some, Some, Ok, Err, slice_index_or}
-use Rattle.std.specs.List.{AllByRecursion as All}
+use Rattle.std.specs.List.{AllByRecursion}
 use Rattle.ledger.specs.View.{View, Sound}
 use Rattle.ledger.specs.Posting.{Post}
 use Rattle.ledger.specs.Rows.{Gained}
@@ -76,8 +76,8 @@ pub record Law (n : ℕ) (v : View) (cs : List Call) (rs : List Answered) (d : D
   pub holds : d ≡ told (kept (blank n) cs rs)
   -- each balance has gained the account's nets over the settled sheets
   pub gained : Gained v (λ a. gains (kept (blank n) cs rs).facilities a (kept (blank n) cs rs).pages) w
-  pub whole : All (Whole (kept (blank n) cs rs).facilities) (kept (blank n) cs rs).pages
-  pub least : All (Least (kept (blank n) cs rs).facilities) (kept (blank n) cs rs).pages
+  pub whole : AllByRecursion (Whole (kept (blank n) cs rs).facilities) (kept (blank n) cs rs).pages
+  pub least : AllByRecursion (Least (kept (blank n) cs rs).facilities) (kept (blank n) cs rs).pages
 
 -- the posts of a list of calls, oldest first, worked out from the book
 abbrev pub written : Book → List Call → List Answered → List Post
