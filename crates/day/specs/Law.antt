@@ -1,5 +1,5 @@
 -- The law of the day, for every list of calls over every ledger.
-use Rattle.std.specs.Prelude.{◌≡◌, ℕ, ◌<◌, Bool, true, false, cond, List, [], ◌∷◌, ◌++◌, length, get_or, ℤ, pos, ◌+ℤ◌, is_some, Some, Ok, Err, slice_index_or}
+use Rattle.std.specs.Prelude.{◌≡◌, ℕ, ◌<◌, Bool, true, false, cond, List, [], ◌∷◌, ◌++◌, length, ℤ, pos, ◌+ℤ◌, is_some, Some, Ok, Err, slice_index_or}
 use Rattle.std.specs.List.{AllByRecursion}
 use Rattle.ledger.specs.View.{View, Sound}
 use Rattle.ledger.specs.Posting.{Post}
@@ -63,7 +63,7 @@ Whole fs p =
 -- compensation rests on, and any that qualifies as much costs at least as much.
 abbrev pub Least : List Facility → Page → Type 0
 Least fs p =
-    p.state ≡ state.Settled → (k : ℕ) (o : Offer) → k < length fs → (get_or p.entries k absent).offer ≡ Some o →
+    p.state ≡ state.Settled → (k : ℕ) (o : Offer) → k < length fs → (slice_index_or p.entries k absent).offer ≡ Some o →
     LeastPaid (operation_of (slice_index_or fs k no_facility) (told_entry (slice_index_or p.entries k absent)) (told_offer o)) (priced_page fs p).price
 
 -- ---- the law: n blank sheets and the ledger v before the calls, the day d and the ledger w after them

@@ -1,5 +1,5 @@
 -- What is claimed of the merit order and the balancing price, for all offers.
-use Rattle.std.specs.Prelude.{◌≡◌, ℕ, ◌+◌, ◌<◌, ◌≤◌, Bool, true, ◌⊎◌, List, [], ◌∷◌, ◌++◌, length, get_or, ℤ, ◌≤ℤ◌, is_some, Some, None, filter, ◌==◌, ◌≢◌, slice_index_or}
+use Rattle.std.specs.Prelude.{◌≡◌, ℕ, ◌+◌, ◌<◌, ◌≤◌, Bool, true, ◌⊎◌, List, [], ◌∷◌, ◌++◌, length, ℤ, ◌≤ℤ◌, is_some, Some, None, filter, ◌==◌, ◌≢◌, slice_index_or}
 use Rattle.std.specs.List.Sorted.{IsPermutation}
 use Rattle.ladder.specs.Orders.{InOrder}
 use Rattle.sheets.specs.declared.facility.Facility.{Facility}
@@ -73,7 +73,7 @@ owned_by n r = r.facility == n
 -- with the kW of all offers
 abbrev pub EachPairOnce : Type 0
 EachPairOnce = (fs : List Facility) (gs : List Figures) → length fs ≡ length gs →
-    ((i : ℕ) → i < length fs → filter (owned_by (i + 1)) (offers_of fs gs) ≡ rungs_from (slice_index_or fs i no_facility) (i + 1) 1 (curve (get_or gs i no_figures).submission))
+    ((i : ℕ) → i < length fs → filter (owned_by (i + 1)) (offers_of fs gs) ≡ rungs_from (slice_index_or fs i no_facility) (i + 1) 1 (curve (slice_index_or gs i no_figures).submission))
     × ((length (offers_of fs gs) ≡ pairs_in gs) × (total (offers_of fs gs) ≡ offers gs))
 
 -- a sheet past close has a price

@@ -1,5 +1,5 @@
 -- The balancing price and the marginal facility.
-use Rattle.std.specs.Prelude.{ℕ, ◌+◌, ◌-◌, Bool, cond, leb, List, [], ◌∷◌, map, ℤ, Some, None, Option, int_le, int_lt, nat_le}
+use Rattle.std.specs.Prelude.{ℕ, ◌+◌, ◌-◌, Bool, cond, List, [], ◌∷◌, map, ℤ, Some, None, Option, int_le, int_lt, nat_le}
 use Rattle.sheets.specs.declared.facility.Facility.{Facility}
 use Rattle.sheets.specs.declared.row.Figures.{Figures}
 use Rattle.merit.specs.declared.rung.Rung.{Rung}
@@ -27,7 +27,7 @@ least_of test (p ∷ ps) = cond (test p) (lesser p (least_of test ps)) (least_of
 
 -- the balancing price: the least adjusted price at or below which the offers reach the demand
 unfoldable pub balancing : List Rung → ℕ → Option ℤ
-balancing os d = least_of (λ p. leb d (offered p os)) (map (λ r. r.price) os)
+balancing os d = least_of (λ p. nat_le d (offered p os)) (map (λ r. r.price) os)
 
 -- the first of some rungs at which the running total reaches the demand
 abbrev pub marginal : List Rung → ℕ → Option Rung
