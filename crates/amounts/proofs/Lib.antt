@@ -5,3 +5,4 @@ pub mod Summing
 pub mod Bounds
 pub mod Levies
 pub mod Tallies
+pub mod Made

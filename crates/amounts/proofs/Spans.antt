@@ -17,18 +17,20 @@ use Rattle.sheets.specs.declared.register.Register.{Register}
 use Rattle.sheets.specs.declared.row.Figures.{Figures}
 use Rattle.sheets.specs.declared.row.Position.{Position}
 use Rattle.sheets.specs.declared.row.Row.{Row}
+use Rattle.sheets.specs.declared.sheet.Sheet.{Sheet}
+use Rattle.merit.specs.Held.{facilities_in, figures_in}
 use Rattle.sheets.specs.Held.{known}
 use Rattle.sheets.specs.Changes.{table}
 use Rattle.sheets.specs.Spans.{facility_sound, prices_sound, price_fits, account_fits, factor_fits, capacity_fits, tolerance_fits}
 use Rattle.sheets.specs.Sheets.{sheet_sound, spans_sound, figures_sound, submission_sound, pair_fits, ramp_fits, start_fits, reading_fits, demand_fits, contract_fits, load_fits, position_fits, no_facility, no_figures, no_position}
 use Rattle.sheets.specs.Tests.{if_some, all2}
 use Rattle.sheets.proofs.Lists.{all_at, all2_at}
-use Rattle.amounts.specs.Sums.{or_zero, metered}
+use Rattle.amounts.specs.Sums.{or_zero, metered, works}
 
 -- ---- one facility
 pub record Fitting (f : Facility) (x : Figures) : Type 0 where
   pub metered : metered f x ≤ 375000000000
-  pub station : (s : Submission) → x.submission ≡ Some s → station.station_fits f.loss_factor f.tolerance (or_zero x.start) s (or_zero x.reading) ≡ true
+  pub works : works f x x.submission ≡ true
 
 or_zero_fits : (o : Option ℕ) (B : ℕ) → if_some (λ n. leb n B) o ≡ true → leb (or_zero o) B ≡ true
 or_zero_fits None B h = le-leb 0 B (omega arith)
@@ -79,12 +81,16 @@ fitting z f x near t h =
     let capacity_most = leb-true f.capacity 1000000 (and_second (leb 1 f.capacity) (leb f.capacity 1000000) capacity) in
     record {
       metered = mul-le (or_zero x.reading) f.loss_factor 30000000 12500 (leb-true (or_zero x.reading) 30000000 reading) factor_most;
-      station = λ s is.
+      works = at_work x.submission (λ s is.
           and_both (factor_fits f.loss_factor) _ factor
           (and_both (station.figures_fit f.tolerance (or_zero x.start) (or_zero x.reading)) _
           (and_both (leb f.tolerance 30000000) _ (and_second (leb 0 f.tolerance) (leb f.tolerance 30000000) tolerance) (and_both (leb (or_zero x.start) 1000000) _ start reading))
-          (submission_fits z f s near capacity_most (ap (if_some (submission_sound z f)) (sym is) ∙ and_first some _ h)));
+          (submission_fits z f s near capacity_most (ap (if_some (submission_sound z f)) (sym is) ∙ and_first some _ h))));
     }
+  where
+    at_work : (o : Option Submission) → ((s : Submission) → o ≡ Some s → station.station_fits f.loss_factor f.tolerance (or_zero x.start) s (or_zero x.reading) ≡ true) → works f x o ≡ true
+    at_work None k = refl
+    at_work (Some s) k = k s refl
 
 -- ---- a sheet
 module _ (fs : List Facility) (r : Row) where
@@ -128,3 +134,7 @@ module _ (g : Register) (r : Row) (sound : sheet_sound (known g) g.prices r ≡ 
   read_fitting fs gs i p q lt =
       subst (λ xs. Fitting (get_or fs i no_facility) (get_or xs i no_figures)) (sym q)
       (subst (λ xs. Fitting (get_or xs i no_facility) (get_or (table g r) i no_figures)) (sym p) (facility_fitting (known g) r g.prices i g.spans g.priced sound lt))
+
+pub standing : (s : Sheet) (i : ℕ) (f : Facility) (x : Figures) → i < length (facilities_in s) → f ≡ get_or (facilities_in s) i no_facility → x ≡ get_or (figures_in s) i no_figures → Fitting f x
+standing s i f x lt p q =
+    subst (λ y. Fitting f y) (sym q) (subst (λ h. Fitting h (get_or (figures_in s) i no_figures)) (sym p) (read_fitting s.register.now s.row s.sound _ _ i refl refl lt))

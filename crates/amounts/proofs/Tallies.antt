@@ -1,7 +1,5 @@
--- The amounts of the accounts, one after another, and their sums; the nets, written one after another.
-use Rattle.std.proofs.Common.{◌≡◌, ℕ, zero, suc, ◌+◌, ◌-◌, ◌<◌, ◌≤◌, List, ◌∷◌, map, length, get_or, set, ℤ, pos, ◌+ℤ◌, ◌-ℤ◌, sym, refl, ap, ◌∙◌, subst, ⊎_elim, arith}
-use Rattle.std.specs.List.{range_with_len}
-use Rattle.std.proofs.lemmas.List.FromFn.{fill_by_all}
+-- The amounts of the accounts, one after another, and their sums; and the nets of them.
+use Rattle.std.proofs.Common.{◌≡◌, ℕ, zero, suc, ◌+◌, ◌-◌, ◌<◌, ◌≤◌, List, length, get_or, set, ℤ, pos, ◌+ℤ◌, ◌-ℤ◌, sym, ap, ◌∙◌, subst, ⊎_elim, arith}
 use Rattle.std.proofs.lemmas.Int.{ints}
 use Rattle.std.proofs.lemmas.List.{length-set, get_or-set_same, get_or-set_other}
 use Rattle.std.proofs.lemmas.Bool.{cases_eq, lt-ltb, cond-true}
@@ -11,7 +9,7 @@ use Rattle.amounts.specs.declared.account.Amounts.{Amounts}
 use Rattle.amounts.specs.Sums.{sum_to_int}
 use Rattle.amounts.specs.Amounts.{PricedSheet, energy_amount, compensation, loads, net}
 use Rattle.amounts.proofs.Levies.{levy_most}
-use Rattle.amounts.specs.Tallies.{near, no_amounts, amounts_on, Small, Tallied}
+use Rattle.amounts.specs.Tallies.{near, no_amounts, amounts_on, Small, Tallied, net_from}
 
 -- an element set, for a fact of each element that holds of the new one
 set_at : {X : Type 0} (P : ℕ → X → Type 0) (xs : List X) (a k : ℕ) (x d : X) → a < length xs → P a x → ((k ≡ a → ⊥) → P k (get_or xs k d)) → P k (get_or (set xs a x) k d)
@@ -48,15 +46,6 @@ tallied_more h a each pool total r pool' low high t is small p =
     }
 
 -- ---- the nets
--- the net of account a, of the amounts tallied and the loads
-abbrev pub net_from : List Amounts → ℤ → ℕ → List ℕ → ℕ → ℤ
-net_from each x n ls zero = x
-net_from each x n ls (suc a) = (get_or each (suc a) no_amounts).energy +ℤ pos (get_or each (suc a) no_amounts).compensation -ℤ pos (levy n ls (suc a))
-
-pub net_from_some : (each : List Amounts) (x : ℤ) (n : ℕ) (ls : List ℕ) (a : ℕ) → 1 ≤ a → net_from each x n ls a ≡ (get_or each a no_amounts).energy +ℤ pos (get_or each a no_amounts).compensation -ℤ pos (levy n ls a)
-net_from_some each x n ls zero h = absurd (omega arith)
-net_from_some each x n ls (suc a) h = refl
-
 pub tallied_net : (h : PricedSheet) (each : List Amounts) (x : ℤ) (n : ℕ) (ls : List ℕ) → Tallied h 12 each x n → ls ≡ loads h.positions → (k : ℕ) → k < 12 → net_from each x n ls k ≡ net h k
 unfolding net
 tallied_net h each x n ls t p zero lt = t.pool
@@ -71,25 +60,3 @@ tallied_near h each x n ls t (suc a) lt =
     let total = t.totaled in
     let levied = levy_most n ls (suc a) (omega arith) in
     omega (arith, ints)
-
--- ---- twelve amounts, written one after another
-pub record Written (f : ℕ → ℤ) (xs : List ℤ) (a : ℕ) : Type 0 where
-  pub len : length xs ≡ 12
-  pub value : (k : ℕ) → k < a → get_or xs k (pos 0) ≡ f k
-
-pub written_one : (f : ℕ → ℤ) (x : ℤ) (xs : List ℤ) → length (x ∷ xs) ≡ 12 → x ≡ f 0 → Written f (x ∷ xs) 1
-written_one f x xs len e = record { len = len; value = value }
-  where
-    value : (k : ℕ) → k < 1 → get_or (x ∷ xs) k (pos 0) ≡ f k
-    value zero lt = e
-    value (suc k) lt = absurd (omega arith)
-
-pub written_more : (f : ℕ → ℤ) (xs : List ℤ) (a : ℕ) (r : ℤ) → a < 12 → Written f xs a → r ≡ f a → Written f (set xs a r) (a + 1)
-written_more f xs a r high w e =
-    record {
-      len = length-set xs a r ∙ w.len;
-      value = λ k below. set_at (λ j x. x ≡ f j) xs a k r (pos 0) (omega (arith, w.len)) e (λ ne. w.value k (lower k a below ne));
-    }
-
-pub written_all : (f : ℕ → ℤ) (xs : List ℤ) (a : ℕ) → 12 ≤ a → Written f xs a → xs ≡ map f (range_with_len 0 12)
-written_all f xs a end w = fill_by_all f xs 12 (pos 0) w.len (λ k lt. w.value k (omega arith))

@@ -1,5 +1,6 @@
 -- The amounts of the accounts by number, as they are summed up.
-use Rattle.std.specs.Prelude.{◌≡◌, ℕ, ◌-◌, ◌*◌, ◌<◌, ◌≤◌, List, length, ℤ, pos, neg_ℤ, slice_index_or, unsigned_abs}
+use Rattle.std.specs.Prelude.{◌≡◌, ℕ, zero, suc, ◌-◌, ◌*◌, ◌<◌, ◌≤◌, List, length, ℤ, pos, neg_ℤ, ◌+ℤ◌, ◌-ℤ◌, slice_index_or, unsigned_abs}
+use Rattle.schedule.specs.Levies.{levy}
 use Rattle.schedule.specs.Ramps.{sum_to}
 use Rattle.amounts.specs.declared.account.Amounts.{Amounts}
 use Rattle.amounts.specs.Sums.{sum_to_int}
@@ -28,3 +29,8 @@ pub record Tallied (h : PricedSheet) (a : ℕ) (each : List Amounts) (x : ℤ) (
   pub total : n ≡ sum_to (compensation h) (a - 1)
   pub pooled : unsigned_abs x ≤ 1250000000 * (a - 1)
   pub totaled : n ≤ 1875000000 * (a - 1)
+
+-- the net of account a, of the amounts tallied and the loads
+abbrev pub net_from : List Amounts → ℤ → ℕ → List ℕ → ℕ → ℤ
+net_from each x n ls zero = x
+net_from each x n ls (suc a) = (slice_index_or each (suc a) no_amounts).energy +ℤ pos (slice_index_or each (suc a) no_amounts).compensation -ℤ pos (levy n ls (suc a))

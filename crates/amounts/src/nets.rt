@@ -1,15 +1,15 @@
 // The twelve nets of a sheet, and what a corrected sheet changes of them.
-ghost use Rattle.std.specs.Prelude.{◌≡◌, ◌≤◌, true, ℤ, pos, ◌+ℤ◌, ◌-ℤ◌, unsigned_abs};
+ghost use Rattle.std.specs.Prelude.{◌≡◌, ◌<◌, ◌≤◌, true, ℕ, ℤ, pos, ◌+ℤ◌, ◌-ℤ◌, unsigned_abs, slice_index_or};
 ghost use Rattle.std.specs.List.{AllByRecursion};
 ghost use Rattle.ledger.specs.Sums.{row_sum};
 ghost use Rattle.sheets.specs.Sheets.{has_load};
 ghost use Rattle.amounts.specs.Amounts as amounts;
-ghost use Rattle.amounts.specs.Sheets.{held_at, changed, Nets, Change};
-ghost use Rattle.amounts.specs.Tallies.{Tallied, near};
+ghost use Rattle.amounts.specs.Held.{held};
+ghost use Rattle.amounts.specs.Sheets.{changed, Nets, Change};
+ghost use Rattle.amounts.specs.Tallies.{Small, Tallied, near, net_from, no_amounts};
 
-use crate::account::{Amounts, amounts_of, levied, loads_of};
+use crate::account::{Account, Amounts, AtPrice, levied, loads_of};
 use merit::price::balancing_price;
-use schedule::span::BalancingPrice;
 use sheets::sheet::Sheet;
 
 // The amounts of all accounts by number, the pool's net, and all compensation.
@@ -18,10 +18,12 @@ struct Tally {
     each: [Amounts; 12],
     pool: i64,
     compensation: u64,
+    ghost small: { (k : ℕ) → Small (slice_index_or each k no_amounts) },
+    ghost total: { compensation ≤ 20625000000 },
 }
 
-fn tally_up(sheet: &Sheet, price: BalancingPrice) -> Tally
-    ensures { Tallied (held_at sheet.now price.cents) 12 result.each result.pool result.compensation }
+fn tally_up(at: AtPrice) -> Tally
+    ensures { Tallied (held at.entry) 12 result.each result.pool result.compensation }
 {
     let mut each = [Amounts {
         energy: 0,
@@ -29,11 +31,14 @@ fn tally_up(sheet: &Sheet, price: BalancingPrice) -> Tally
     }; 12];
     let mut pool = 0;
     let mut total = 0;
-    for account in 1..12 {
-        let amounts = amounts_of(sheet, price, account as u32);
+    // Kept: with `each` from `array::from_fn`, `-each.iter().map(|a| a.energy).sum::<i64>()` left open that the sums so far fit (`sum-requires-clause-fits`) and that the negation does (`overflow_sub`).
+    for number in 1..12 {
+        let amounts = at.amounts(Account {
+            number: number as u32,
+        });
         pool -= amounts.energy;
         total += amounts.compensation;
-        each[account] = amounts;
+        each[number] = amounts;
     }
     Tally {
         each,
@@ -50,22 +55,38 @@ fn after_levy(amounts: Amounts, levy: u64) -> i64
     amounts.energy + amounts.compensation as i64 - levy as i64
 }
 
+// The net of account 0, the pool, or of one of the accounts 1 to 11.
+fn net_of(tally: &Tally, loads: &[u32; 11], account: usize) -> i64
+    requires { account < 12 }
+    ensures { result ≡ net_from tally.now.each tally.now.pool tally.now.compensation loads.now account }
+{
+    if account == 0 {
+        return tally.pool;
+    }
+    let levy = levied(
+        tally.compensation,
+        loads,
+        Account {
+            number: account as u32,
+        },
+    );
+    after_levy(tally.each[account], levy)
+}
+
 // The nets of the pool and of accounts 1 to 11, at a price.
-fn nets_at(sheet: &Sheet, price: BalancingPrice) -> [i64; 12]
-    ensures value { result ≡ amounts.nets (held_at sheet.now price.cents) }
-    ensures balance { has_load sheet.now.row.positions ≡ true → row_sum result ≡ pos 0 }
+fn nets_at(at: AtPrice) -> [i64; 12]
+    ensures value { result ≡ amounts.nets (held at.entry) }
+    ensures balance { has_load at.entry.sheet.now.row.positions ≡ true → row_sum result ≡ pos 0 }
     ensures small { AllByRecursion near result }
 {
-    let tally = tally_up(sheet, price);
-    let row = sheet.row();
-    let loads = loads_of(&row.positions);
-    let mut nets = [0; 12];
-    nets[0] = tally.pool;
-    for at in 1..12 {
-        let levy = levied(tally.compensation, &loads, at as u32);
-        nets[at] = after_levy(tally.each[at], levy);
-    }
-    nets
+    let tally = tally_up(at);
+    let loads = loads_of(at.sheet.row().positions);
+    std::array::from_fn(
+        |account|
+            requires { account < 12 }
+            ensures { result ≡ net_from tally.each tally.pool tally.compensation loads account }
+        { net_of(&tally, &loads, account) },
+    )
 }
 
 // The nets of the pool and of accounts 1 to 11, at the sheet's balancing price. Nothing where it has none: on no closed or settled sheet.
@@ -73,7 +94,7 @@ pub fn nets(sheet: &Sheet) -> Option<[i64; 12]>
     ensures { Nets sheet.now result }
 {
     let (price, _) = balancing_price(sheet)?;
-    Some(nets_at(sheet, price))
+    Some(nets_at(AtPrice { sheet, price }))
 }
 
 fn less(new: &[i64; 12], old: &[i64; 12]) -> [i64; 12]
@@ -81,11 +102,14 @@ fn less(new: &[i64; 12], old: &[i64; 12]) -> [i64; 12]
     requires old { AllByRecursion near old.now }
     ensures { result ≡ changed new.now old.now }
 {
-    let mut change = [0; 12];
-    for a in 0..12 {
-        change[a] = new[a] - old[a];
-    }
-    change
+    std::array::from_fn(
+        |account|
+            requires account { account < 12 }
+            requires new { AllByRecursion near new.now }
+            requires old { AllByRecursion near old.now }
+            ensures { result ≡ slice_index_or new.entry.now account (pos 0) -ℤ slice_index_or old.entry.now account (pos 0) }
+        { new[account] - old[account] },
+    )
 }
 
 // The nets of a sheet less those of the sheet that it was; nothing where one of them has no price.
@@ -94,5 +118,13 @@ pub fn change(new: &Sheet, old: &Sheet) -> Option<[i64; 12]>
 {
     let (now_at, _) = balancing_price(new)?;
     let (was_at, _) = balancing_price(old)?;
-    Some(less(&nets_at(new, now_at), &nets_at(old, was_at)))
+    let nets = nets_at(AtPrice {
+        sheet: new,
+        price: now_at,
+    });
+    let were = nets_at(AtPrice {
+        sheet: old,
+        price: was_at,
+    });
+    Some(less(&nets, &were))
 }

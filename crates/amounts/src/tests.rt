@@ -22,14 +22,11 @@ fn two_stations() -> Option<Register> {
     let mut register = Register::blank();
     register.add(station(1))?;
     register.add(station(2))?;
-    if register.open(Prices {
+    let opened = register.open(Prices {
         low: 0,
         high: 10_000,
-    }) {
-        Some(register)
-    } else {
-        None
-    }
+    });
+    opened.then_some(register)
 }
 
 fn running(

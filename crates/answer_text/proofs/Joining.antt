@@ -1,16 +1,10 @@
 -- Pieces put one after another in a draft.
-use Rattle.std.proofs.Common.{◌≡◌, ℕ, ◌^◌, ◌<◌, ◌≤◌, List, [], ◌++◌, length, ℤ, pos, negsuc, decimal, sym, ap, ◌∙◌, arith, w64, Fits, SFits}
+use Rattle.std.proofs.Common.{◌≡◌, ℕ, ◌^◌, ◌<◌, ◌≤◌, List, [], ◌++◌, length, ℤ, pos, negsuc, decimal, ap, ◌∙◌, arith, w64, Fits, SFits}
 use lib.Signed.{mag}
 use Rattle.std.proofs.lemmas.Fmt.{length-decimal-le, length_signed_le}
 use Rattle.std.specs.Fmt.{signed_decimal}
-use Rattle.std.proofs.lemmas.List.{append-nil}
-use Rattle.text.specs.declared.draft.Draft.{Draft}
-use Rattle.text.specs.Drafts.{held, kept}
-use Rattle.text.proofs.Drafting.{kept_more, kept_all, held_short}
-
--- a draft with nothing more
-pub kept_nothing : (d : Draft) → held d ≡ kept (held d ++ [])
-kept_nothing d = sym (ap kept (append-nil (held d)) ∙ kept_all (held d) (held_short d))
+use Rattle.text.specs.Drafts.{kept}
+use Rattle.text.proofs.Drafting.{kept_more, kept_all}
 
 -- pieces from an empty draft on
 pub from_none : (new last text : List ℕ) → new ≡ [] → length text ≤ 512 → last ≡ kept (new ++ text) → last ≡ text

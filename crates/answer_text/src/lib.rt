@@ -1,8 +1,9 @@
 // The text of what a day's calls answer, line by line.
+// Kept: pieces pushed into a draft, since these lines cannot fail; a `Display` may answer an error, by its type.
 #![tactic(auto)]
 
 ghost use Rattle.std.specs.Prelude.{◌≡◌, ◌+◌, ◌≤◌, ◌++◌, length, decimal};
-ghost use Rattle.text.specs.Drafts.{held, kept};
+ghost use Rattle.text.specs.Drafts.{kept};
 ghost use Rattle.answer_text.specs.Answers.{price_words, answer_words, refusal_words, reason_words, result_words, answered, not_answered, journal_text, balance_text, sum_text};
 
 use ledger::reason::Reason;
@@ -11,7 +12,7 @@ use refusals::Refusal;
 use text::draft::Draft;
 
 fn push_figure(draft: &mut Draft, key: &[u8], n: u64)
-    ensures after { held draft.new ≡ kept (held draft.old ++ (key.now ++ decimal n)) }
+    ensures after { draft.new ≡ kept (draft.old ++ (key.now ++ decimal n)) }
     ensures short { length (key.now ++ decimal n) ≤ length key.now + 20 }
 {
     draft.push(key);
@@ -19,7 +20,7 @@ fn push_figure(draft: &mut Draft, key: &[u8], n: u64)
 }
 
 fn push_price(draft: &mut Draft, price: i64, facility: u32)
-    ensures after { held draft.new ≡ kept (held draft.old ++ price_words price facility) }
+    ensures after { draft.new ≡ kept (draft.old ++ price_words price facility) }
     ensures short { length (price_words price facility) ≤ 100 }
 {
     draft.push(b"price=");
@@ -28,7 +29,7 @@ fn push_price(draft: &mut Draft, price: i64, facility: u32)
 }
 
 fn push_answer(draft: &mut Draft, answer: Answer)
-    ensures after { held draft.new ≡ kept (held draft.old ++ answer_words answer) }
+    ensures after { draft.new ≡ kept (draft.old ++ answer_words answer) }
     ensures short { length (answer_words answer) ≤ 100 }
 {
     match answer {
@@ -43,16 +44,17 @@ fn push_answer(draft: &mut Draft, answer: Answer)
 }
 
 fn push_reason(draft: &mut Draft, reason: Option<Reason>)
-    ensures after { held draft.new ≡ kept (held draft.old ++ reason_words reason) }
+    ensures after { draft.new ≡ kept (draft.old ++ reason_words reason) }
     ensures short { length (reason_words reason) ≤ 28 }
 {
-    if let Some(reason) = reason {
-        push_figure(draft, b" reason=", reason.number() as u64);
+    match reason {
+        Some(reason) => push_figure(draft, b" reason=", reason.number() as u64),
+        None => draft.push(b""),
     }
 }
 
 fn push_refusal(draft: &mut Draft, refusal: Refusal)
-    ensures after { held draft.new ≡ kept (held draft.old ++ refusal_words refusal) }
+    ensures after { draft.new ≡ kept (draft.old ++ refusal_words refusal) }
     ensures short { length (refusal_words refusal) ≤ 100 }
 {
     push_figure(draft, b"refused=", refusal.number() as u64);
@@ -61,7 +63,7 @@ fn push_refusal(draft: &mut Draft, refusal: Refusal)
 }
 
 fn push_result(draft: &mut Draft, res: Result<Answer, Refusal>)
-    ensures after { held draft.new ≡ kept (held draft.old ++ result_words res) }
+    ensures after { draft.new ≡ kept (draft.old ++ result_words res) }
     ensures short { length (result_words res) ≤ 100 }
 {
     match res {
@@ -72,7 +74,7 @@ fn push_result(draft: &mut Draft, res: Result<Answer, Refusal>)
 
 // The line that answers the call on a line of the day file.
 pub fn answer_line(line: u64, res: Result<Answer, Refusal>) -> Draft
-    ensures { held result ≡ answered line res }
+    ensures { result ≡ answered line res }
 {
     let mut draft = Draft::new();
     draft.push_natural(line);
@@ -84,7 +86,7 @@ pub fn answer_line(line: u64, res: Result<Answer, Refusal>) -> Draft
 
 // The same for a line that is not a call.
 pub fn not_a_call(line: u64) -> Draft
-    ensures { held result ≡ not_answered line }
+    ensures { result ≡ not_answered line }
 {
     let mut draft = Draft::new();
     draft.push_natural(line);
@@ -94,7 +96,7 @@ pub fn not_a_call(line: u64) -> Draft
 
 // A line of the journal: its number, the account, and what was posted to it.
 pub fn journal_line(line: usize, account: u32, cents: i64) -> Draft
-    ensures { held result ≡ journal_text line account cents }
+    ensures { result ≡ journal_text line account cents }
 {
     let mut draft = Draft::new();
     push_figure(&mut draft, b"line=", line as u64);
@@ -107,7 +109,7 @@ pub fn journal_line(line: usize, account: u32, cents: i64) -> Draft
 
 // The line of an account and its balance.
 pub fn balance_line(account: usize, cents: i64) -> Draft
-    ensures { held result ≡ balance_text account cents }
+    ensures { result ≡ balance_text account cents }
 {
     let mut draft = Draft::new();
     push_figure(&mut draft, b"account=", account as u64);
@@ -119,7 +121,7 @@ pub fn balance_line(account: usize, cents: i64) -> Draft
 
 // The line of the sum of all balances.
 pub fn sum_line(cents: i64) -> Draft
-    ensures { held result ≡ sum_text cents }
+    ensures { result ≡ sum_text cents }
 {
     let mut draft = Draft::new();
     draft.push(b"sum=");

@@ -1,6 +1,5 @@
 -- The same call with its answer in another form, or with more working rungs than it needs.
-use Rattle.std.proofs.Common.{◌≡◌, ℕ, ◌<◌, ◌≤◌, min, Bool, Ok, Err, Result, sym, ap, ◌∙◌, subst, ⊎_elim, arith}
-use Rattle.std.specs.Result.{result_map_both as mapped_both}
+use Rattle.std.proofs.Common.{◌≡◌, ℕ, ◌<◌, ◌≤◌, min, Bool, Ok, Err, Result, sym, ap, ◌∙◌, subst, ⊎_elim, MatchResult, IsOkAnd, arith, rules}
 use Rattle.std.proofs.lemmas.Bool.{cases_lt, le-leb}
 use Rattle.ledger.specs.View.{View}
 use Rattle.refusals.specs.declared.Refusal.{Refusal}
@@ -14,8 +13,8 @@ use Rattle.pool.specs.Day.{Day, Does, table, is_open, interval_known, at_sheet, 
 use Rattle.day.specs.Book.{Answered}
 
 pub answered : {X : Type 0} (wrap : X → Answer) (d : Day) (v : View) (c : Call) (r : Result X Refusal) (s : Answered) (e : Day) (w : View) →
-    s ≡ mapped_both wrap (λ f. f) r → Does wrap d v c r e w → Does (λ x. x) d v c s e w
-answered wrap d v c (Ok x) s e w h t = subst (λ (k : Answered). Does (λ x. x) d v c k e w) (sym h) t
+    MatchResult r (λ x. IsOkAnd s (λ a. a ≡ wrap x)) (λ f. s ≡ Err f) → Does wrap d v c r e w → Does (λ x. x) d v c s e w
+answered wrap d v c (Ok x) s e w h t = search rules
 answered wrap d v c (Err f) s e w h t = subst (λ (k : Answered). Does (λ x. x) d v c k e w) (sym h) t
 
 -- 96 working rungs and more are checked alike

@@ -1,26 +1,13 @@
 -- What a ledger took of a list of calls, beyond what is seen of it.
-use Rattle.std.proofs.Common.{◌≡◌, List, [], ◌∷◌, ◌++◌, ℤ, Ok, Err, Result, sym, refl, ap, ◌∙◌, subst}
+use Rattle.std.proofs.Common.{◌≡◌, List, [], ◌∷◌, ◌++◌, Ok, Err, sym, refl, ap, ◌∙◌, subst}
 use Rattle.std.proofs.lemmas.List.{append_assoc, append-nil}
-use Rattle.std.specs.Result.{result_map_both as mapped_both}
 use Rattle.ledger.specs.View.{View}
 use Rattle.ledger.specs.Posting.{Post}
-use Rattle.refusals.specs.declared.Refusal.{Refusal}
 use Rattle.pool.specs.declared.call.Call.{Call}
-use Rattle.pool.specs.declared.call.Answer.{Answer}
-use Rattle.pool.specs.Day.{Day, posts_of, made_posts, Does}
+use Rattle.pool.specs.Day.{Day, made_posts, Does}
 use Rattle.day.specs.Book.{Book, Answered, fed, told}
 use Rattle.day.specs.Law.{Goes, day_after, posts_made, written}
 use Rattle.day.proofs.Pages.{told_after}
-
--- a call without amounts makes no post
-pub no_posts : (r : Answered) → [] ≡ posts_of [] r
-no_posts (Ok a) = refl
-no_posts (Err f) = refl
-
--- nor does the form of its answer matter
-pub posts_alike : {X : Type 0} (wrap : X → Answer) (xs : List ℤ) (r : Result X Refusal) (s : Answered) → s ≡ mapped_both wrap (λ f. f) r → posts_of xs r ≡ posts_of xs s
-posts_alike wrap xs (Ok x) s h = ap (posts_of xs) (sym h)
-posts_alike wrap xs (Err f) s h = ap (posts_of xs) (sym h)
 
 -- ---- from the day to the book
 told_next : (b : Book) (c : Call) (r : Answered) → day_after (told b) c r ≡ told (fed b c r)

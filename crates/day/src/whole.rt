@@ -14,15 +14,6 @@ use sheets::register::Register;
 use sheets::row::Row;
 use std::alloc::{AllocError, Global};
 
-// Makes the sheets blank.
-fn clear(sheets: &mut [Row])
-    ensures { sheets.new ≡ replicate (length sheets.old) blank_row }
-{
-    for sheet in sheets.iter_mut() {
-        *sheet = Row::blank();
-    }
-}
-
 // The calls of a whole day, on sheets made blank and a register of its own. For want of memory no call is made.
 pub fn whole_day<L: Ledger>(
     heap: Global,
@@ -35,6 +26,6 @@ pub fn whole_day<L: Ledger>(
     ensures unmade { OnErr result ((sheets.new ≡ replicate (length sheets.old) blank_row) × (ledger.new ≡ ledger.old)) }
 {
     let mut register = Register::blank();
-    clear(sheets);
+    sheets.fill(Row::blank());
     run(heap, &mut register, sheets, ledger, calls)
 }

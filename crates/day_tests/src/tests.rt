@@ -6,7 +6,6 @@ use crate::tests::small::Small;
 use crate::tests::worked::*;
 use day::whole::whole_day;
 use journal::journal::Journal;
-use journal::lent::Lent;
 use journal::line::Line;
 use ledger::accounts::MOST;
 use ledgers::limit::CreditLimit;
@@ -270,22 +269,22 @@ const OLD: Line = Line {
     cents: 7,
 };
 
-fn is_line(line: Line, account: u32, cents: i64) -> bool {
-    line.account == account && line.cents == cents
+fn line(account: u32, cents: i64) -> Line {
+    Line { account, cents }
 }
 
 #[test]
 fn limit_over_a_journal(rt: HostRuntime) -> Result<(), Fail> {
     let mut memory = [OLD; 8];
     let mut journal = Journal::new(&mut memory);
-    let mut pile = CreditLimit::new(Lent::new(&mut journal), [84_616; 64]);
+    let mut pile = CreditLimit::new(&mut journal, [84_616; 64]);
     let calls = worked_calls(rt.alloc())?;
     let answers = whole_day(rt.alloc(), &mut [Row::blank(); 6], &mut pile, &calls)?;
     assert!(rt; answers.len() == 15 && answers[13] == Ok(Answer::Posts(3)));
     assert!(rt; answers[14] == Ok(Answer::Posts(4)) && journal.used() == 7);
-    assert!(rt; is_line(memory[0], 1, 50_667) && is_line(memory[2], 3, -83_693));
-    assert!(rt; is_line(memory[3], 0, -2_000) && is_line(memory[6], 3, -923));
-    assert!(rt; is_line(memory[7], 99, 7));
+    assert!(rt; memory[0] == line(1, 50_667) && memory[2] == line(3, -83_693));
+    assert!(rt; memory[3] == line(0, -2_000) && memory[6] == line(3, -923));
+    assert!(rt; memory[7] == line(99, 7));
     Ok(())
 }
 
@@ -296,6 +295,6 @@ fn journal_too_short_for_the_correction(rt: HostRuntime) -> Result<(), Fail> {
     let calls = worked_calls(rt.alloc())?;
     let answers = whole_day(rt.alloc(), &mut [Row::blank(); 6], &mut journal, &calls)?;
     assert!(rt; answers.len() == 15 && is_not_posted(answers[14], 2, 4));
-    assert!(rt; journal.used() == 3 && is_line(memory[3], 99, 7));
+    assert!(rt; journal.used() == 3 && memory[3] == line(99, 7));
     Ok(())
 }

@@ -1,4 +1,3 @@
 pub mod Wording
-pub mod Counting
 pub mod Laying
 pub mod Sizes

@@ -1,5 +1,6 @@
 -- A line has no more pairs than bytes.
 use Rattle.std.proofs.Common.{◌≡◌, ℕ, suc, ◌+◌, ◌≤◌, true, false, cond, eqb, List, [], ◌∷◌, length, Some, None, codes, Option, ap, arith}
+use Rattle.std.specs.List.{onto_first}
 use Rattle.std.specs.Option.{option_map}
 use Rattle.std.specs.Str.{bytes_eq}
 use Rattle.std.proofs.lemmas.Bool.{cond-true}
@@ -8,28 +9,28 @@ use Rattle.offers.specs.declared.pair.Pair.{Pair}
 use Rattle.day_text.specs.declared.line.DayLine.{DayLine}
 use Rattle.day_text.specs.declared.line.DayLine.TheVariants.{Blank, NotACall}
 use Rattle.day_text.specs.declared.arguments.Offer.{Offer}
-use Rattle.day_text.specs.Words.{onto, words, and_then, first, number, pair_of, all_pairs, or_none}
+use Rattle.day_text.specs.Words.{words, and_then, first, number, pair_of, all_pairs, or_none}
 use Rattle.day_text.specs.Lines.{blank, offer_of, lodged, lodge_of, plain_of, call_of, or_not, read_of, pairs_of, line_of, brought, fit, line_into}
-use Rattle.day_text.proofs.Laying.{lodge_brings, line_brings}
+use Rattle.day_text.proofs.Laying.{line_brings}
 
 -- the bytes of words
 bytes : List (List ℕ) → ℕ
 bytes [] = 0
 bytes (w ∷ ws) = length w + bytes ws
 
-bytes_onto : (c : ℕ) (ws : List (List ℕ)) → bytes (onto c ws) ≤ suc (bytes ws)
+bytes-onto_first : (c : ℕ) (ws : List (List ℕ)) → bytes (onto_first c ws) ≤ suc (bytes ws)
 unfolding bytes
-bytes_onto c [] = omega arith
-bytes_onto c (w ∷ ws) = omega arith
+bytes-onto_first c [] = omega arith
+bytes-onto_first c (w ∷ ws) = omega arith
 
 bytes_words : (s : List ℕ) → bytes (words s) ≤ length s
 unfolding bytes
 bytes_words [] = omega arith
 bytes_words (c ∷ cs) =
     let h = bytes_words cs in
-    elim (eqb c 32) as (λ b. bytes (cond b ([] ∷ words cs) (onto c (words cs))) ≤ suc (length cs)) [
+    elim (eqb c 32) as (λ b. bytes (cond b ([] ∷ words cs) (onto_first c (words cs))) ≤ suc (length cs)) [
       | true ↦ omega arith
-      | false ↦ omega (arith, bytes_onto c (words cs))
+      | false ↦ omega (arith, bytes-onto_first c (words cs))
     ]
 
 -- an empty word is no pair
@@ -64,12 +65,16 @@ offer_within ws =
     let n = bytes ws in
     first_within number _ n ws (omega arith) (λ f vs h. first_within number _ n vs h (λ i bs j. first_within number _ n bs j (λ u cs k. first_within number _ n cs k (λ d ds l. l))))
 
+lodged_bytes : (o : Offer) (q : Option (List Pair)) (n : ℕ) → length (or_none q) ≤ n → length (brought (option_map (lodged o) q)) ≤ n
+lodged_bytes o None n h = h
+lodged_bytes o (Some ps) n h = h
+
 lodge_bytes : (ws : List (List ℕ)) → length (brought (lodge_of ws)) ≤ bytes ws
 lodge_bytes ws = go (offer_of ws) (offer_within ws)
   where
     go : (q : Option (Offer × List (List ℕ))) → Within (bytes ws) q → length (brought (and_then q (λ o. option_map (lodged o.0) (all_pairs o.1)))) ≤ bytes ws
     go None h = omega arith
-    go (Some x) h = omega (arith, pairs_bytes x.1, ap length (lodge_brings x.0 (all_pairs x.1)))
+    go (Some x) h = lodged_bytes x.0 (all_pairs x.1) (bytes ws) (omega (arith, pairs_bytes x.1))
 
 plain_bytes : (n : ℕ) (x : Option DayLine) → length (brought (option_map (λ l. (l, [])) x)) ≤ n
 plain_bytes n None = omega arith

@@ -1,6 +1,6 @@
 -- What a line of a day file says, for every string of bytes.
-use Rattle.std.specs.Prelude.{ℕ, Bool, true, cond, List, [], ◌∷◌, ◌++◌, length, drop, Some, None, codes, Option, ◌==◌, nat_le}
-use Rattle.std.specs.Option.{option_map}
+use Rattle.std.specs.Prelude.{ℕ, Bool, true, if◌then◌else◌, List, [], ◌∷◌, ◌++◌, length, drop, Some, None, codes, Option, ◌==◌, nat_le, unwrap_or}
+use Rattle.std.specs.Option.{option_map, option_map_or}
 use Rattle.std.specs.Str.{bytes_eq}
 use Rattle.offers.specs.declared.pair.Pair.{Pair}
 use Rattle.day_text.specs.declared.keyword.Keyword.{Keyword}
@@ -10,7 +10,7 @@ use Rattle.day_text.specs.declared.line.DayLine.TheVariants.{Blank, Sheets, Limi
 use Rattle.day_text.specs.declared.arguments.Target.{Target}
 use Rattle.day_text.specs.declared.arguments.Offer.{Offer}
 use Rattle.day_text.specs.Keywords.{keyword_of}
-use Rattle.day_text.specs.Words.{words, and_then, first, ended, natural, number, integer, cents, all_pairs}
+use Rattle.day_text.specs.Words.{words, next_word, and_then, first, ended, natural, number, integer, cents, all_pairs}
 
 -- ---- each line by the words after its keyword
 abbrev pub sheets_of : List (List ℕ) → Option DayLine
@@ -28,18 +28,20 @@ register_of ws =
 abbrev pub open_of : List (List ℕ) → Option DayLine
 open_of ws = and_then (first integer ws) (λ l. and_then (first integer l.1) (λ h. ended (Open l.0 h.0) h.1))
 
--- the facility and the interval that a line begins with
-abbrev pub target_of : List (List ℕ) → Option (Target × List (List ℕ))
-target_of ws = and_then (first number ws) (λ f. and_then (first number f.1) (λ i. Some (record { facility = f.0; interval = i.0 }, i.1)))
+-- a facility, an interval and a figure, and no other word
+abbrev pub targeted : List (List ℕ) → Option Target
+targeted ws =
+    and_then (first number ws) (λ f. and_then (first number f.1) (λ i. and_then (first number i.1) (λ k.
+    ended record { facility = f.0; interval = i.0; figure = k.0 } k.1)))
 
 abbrev pub start_of : List (List ℕ) → Option DayLine
-start_of ws = and_then (target_of ws) (λ t. and_then (first number t.1) (λ k. ended (Start t.0.facility t.0.interval k.0) k.1))
+start_of ws = option_map (λ t. Start t.facility t.interval t.figure) (targeted ws)
 
 abbrev pub reading_of : List (List ℕ) → Option DayLine
-reading_of ws = and_then (target_of ws) (λ t. and_then (first number t.1) (λ k. ended (Reading t.0.facility t.0.interval k.0) k.1))
+reading_of ws = option_map (λ t. Reading t.facility t.interval t.figure) (targeted ws)
 
 abbrev pub adjust_of : List (List ℕ) → Option DayLine
-adjust_of ws = and_then (target_of ws) (λ t. and_then (first number t.1) (λ k. ended (Adjust t.0.facility t.0.interval k.0) k.1))
+adjust_of ws = option_map (λ t. Adjust t.facility t.interval t.figure) (targeted ws)
 
 abbrev pub position_of : List (List ℕ) → Option DayLine
 position_of ws =
@@ -49,11 +51,15 @@ position_of ws =
 abbrev pub demand_of : List (List ℕ) → Option DayLine
 demand_of ws = and_then (first number ws) (λ i. and_then (first number i.1) (λ k. ended (Demand i.0 k.0) k.1))
 
+-- an interval, and no other word
+abbrev pub interval_of : List (List ℕ) → Option ℕ
+interval_of ws = and_then (first number ws) (λ i. ended i.0 i.1)
+
 abbrev pub close_of : List (List ℕ) → Option DayLine
-close_of ws = and_then (first number ws) (λ i. ended (Close i.0) i.1)
+close_of ws = option_map Close (interval_of ws)
 
 abbrev pub settle_of : List (List ℕ) → Option DayLine
-settle_of ws = and_then (first number ws) (λ i. ended (Settle i.0) i.1)
+settle_of ws = option_map Settle (interval_of ws)
 
 -- facility, interval and ramps of a lodge
 abbrev pub offer_of : List (List ℕ) → Option (Offer × List (List ℕ))
@@ -88,12 +94,10 @@ plain_of w ws = and_then (keyword_of w) (λ k. arguments_of k ws)
 
 -- a line with its pairs, which a lodge alone has
 abbrev pub call_of : List (List ℕ) → Option (DayLine × List Pair)
-call_of [] = None
-call_of (w ∷ ws) = cond (bytes_eq w (codes "lodge")) (lodge_of ws) (option_map (λ l. (l, [])) (plain_of w ws))
+call_of ws = and_then (next_word ws) (λ n. if bytes_eq n.0 (codes "lodge") then lodge_of n.1 else option_map (λ l. (l, [])) (plain_of n.0 n.1))
 
 abbrev pub or_not : Option (DayLine × List Pair) → DayLine × List Pair
-or_not None = (NotACall, [])
-or_not (Some x) = x
+or_not q = unwrap_or q (NotACall, [])
 
 -- an empty line, or one that begins with `#`
 abbrev pub blank : List ℕ → Bool
@@ -101,7 +105,7 @@ blank [] = true
 blank (c ∷ cs) = c == 35
 
 abbrev pub read_of : List ℕ → DayLine × List Pair
-read_of s = cond (blank s) (Blank, []) (or_not (call_of (words s)))
+read_of s = if blank s then (Blank, []) else or_not (call_of (words s))
 
 -- what the line says, and the pairs that it brings
 abbrev pub line_of : List ℕ → DayLine
@@ -115,17 +119,15 @@ abbrev pub fit : List Pair → List Pair → Bool
 fit ps memory = nat_le (length ps) (length memory)
 
 abbrev pub call_into : List Pair → Option (DayLine × List Pair) → Option DayLine
-call_into memory None = None
-call_into memory (Some x) = cond (fit x.1 memory) (Some x.0) None
+call_into memory q = and_then q (λ x. if fit x.1 memory then Some x.0 else None)
 
 abbrev pub brought : Option (DayLine × List Pair) → List Pair
-brought None = []
-brought (Some x) = x.1
+brought q = option_map_or (λ x. x.1) q []
 
 -- a line for whose pairs there is no memory is not a call
 abbrev pub line_into : List Pair → DayLine × List Pair → DayLine
-line_into memory x = cond (fit x.1 memory) x.0 NotACall
+line_into memory x = if fit x.1 memory then x.0 else NotACall
 
 -- the pairs from the front, and what lay past them; as it was where they do not fit
 abbrev pub laid : List Pair → List Pair → List Pair
-laid memory ps = cond (fit ps memory) (ps ++ drop (length ps) memory) memory
+laid memory ps = if fit ps memory then ps ++ drop (length ps) memory else memory

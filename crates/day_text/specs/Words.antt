@@ -1,19 +1,15 @@
 -- The words of a line, and what is read from them one after another.
-use Rattle.std.specs.Prelude.{ℕ, cond, List, [], ◌∷◌, length, ℤ, pos, negsuc, Some, None, Option, ◌==◌, nat_le}
-use Rattle.std.specs.Option.{option_map}
+use Rattle.std.specs.Prelude.{ℕ, List, [], ◌∷◌, length, if◌then◌else◌, ℤ, pos, negsuc, Some, None, Option, ◌==◌, nat_le, unwrap_or}
+use Rattle.std.specs.List.{slice_split}
+use Rattle.std.specs.Option.{option_map, option_and_then}
 use Rattle.std.specs.Result.{result_ok}
 use Rattle.text.specs.Numbers.{natural_of, signed_of}
 use Rattle.text.specs.Lines.{before, after}
 use Rattle.offers.specs.declared.pair.Pair.{Pair}
 
-abbrev pub onto : ℕ → List (List ℕ) → List (List ℕ)
-onto c [] = (c ∷ []) ∷ []
-onto c (w ∷ ws) = (c ∷ w) ∷ ws
-
 -- what stands between single spaces; two spaces in a row have an empty word between them
 abbrev pub words : List ℕ → List (List ℕ)
-words [] = [] ∷ []
-words (c ∷ cs) = cond (c == 32) ([] ∷ words cs) (onto c (words cs))
+words s = slice_split (λ c. c == 32) s
 
 -- the words of what is left of a line, of which nothing is left behind its last word
 abbrev pub words_left : Option (List ℕ) → List (List ℕ)
@@ -26,8 +22,7 @@ next_word (w ∷ ws) = Some (w, ws)
 
 -- the next step, unless one failed before
 abbrev pub and_then : {X Y : Type 0} → Option X → (X → Option Y) → Option Y
-and_then None f = None
-and_then (Some x) f = f x
+and_then o f = option_and_then f o
 
 -- what the first word says, and the words after it
 abbrev pub first : {X : Type 0} → (List ℕ → Option X) → List (List ℕ) → Option (X × List (List ℕ))
@@ -54,8 +49,7 @@ cents w = result_ok (signed_of (negsuc 9223372036854775807) (pos 922337203685477
 
 -- ---- pairs
 abbrev pub rated : ℤ → Option (List ℕ) → Option Pair
-rated p None = None
-rated p (Some w) = option_map (λ k. record { price = p; kw = k }) (number w)
+rated p w = and_then w (λ v. option_map (λ k. record { price = p; kw = k }) (number v))
 
 -- `price:kW`, parted at the first colon
 abbrev pub pair_of : List ℕ → Option Pair
@@ -72,9 +66,7 @@ counted ws = option_map length (all_pairs ws)
 
 -- a number, if there is room for so many
 abbrev pub fitting : ℕ → Option ℕ → Option ℕ
-fitting room None = None
-fitting room (Some n) = cond (nat_le n room) (Some n) None
+fitting room o = and_then o (λ n. if nat_le n room then Some n else None)
 
 abbrev pub or_none : Option (List Pair) → List Pair
-or_none None = []
-or_none (Some ps) = ps
+or_none o = unwrap_or o []

@@ -1,21 +1,22 @@
 // Each line by the words after its keyword.
 ghost use Rattle.std.specs.Prelude.{◌≡◌};
 ghost use Rattle.std.specs.Option.{option_map};
-ghost use Rattle.day_text.specs.Words.{words_left, ended};
-ghost use Rattle.day_text.specs.Lines.{sheets_of, limit_of, register_of, open_of, target_of, start_of, reading_of, adjust_of, position_of, demand_of, close_of, settle_of, offer_of, plain_of};
+ghost use Rattle.day_text.specs.Lines.{sheets_of, limit_of, register_of, open_of, targeted, position_of, demand_of, interval_of, offer_of, plain_of};
 
 use crate::keyword::{Keyword, keyword_of};
 use crate::line::DayLine;
-use crate::numbers::{cents, integer, number};
+use crate::words::Words;
 
-// Of whom and when a line speaks.
+// Of whom and when a line speaks, and the figure that it gives.
 #[derive(Clone, Copy)]
 pub struct Target {
     pub facility: u32,
     pub interval: u32,
+    pub figure: u32,
 }
 
 // A lodge before its pairs.
+// Kept: `submission_text` has the same four figures in its `Head`; neither crate builds on the other, and `text` below both knows no offers.
 #[derive(Clone, Copy)]
 pub struct Offer {
     pub facility: u32,
@@ -24,173 +25,123 @@ pub struct Offer {
     pub ramp_down: u32,
 }
 
-// The line, if no word is left.
-fn complete(line: DayLine, left: Option<&[u8]>) -> Option<DayLine>
-    ensures { result ≡ ended line (words_left (option_map (λ x. x.now) left.entry)) }
+fn sheets(mut words: Words) -> Option<DayLine>
+    ensures { result ≡ sheets_of words.entry }
 {
-    match left {
-        Some(_) => None,
-        None => Some(line),
-    }
+    let count = words.number(1, 48)?;
+    words.end(DayLine::Sheets { count })
 }
 
-fn sheets(left: Option<&[u8]>) -> Option<DayLine>
-    ensures { result ≡ sheets_of (words_left (option_map (λ x. x.now) left.entry)) }
+fn limit(mut words: Words) -> Option<DayLine>
+    ensures { result ≡ limit_of words.entry }
 {
-    let (count, left) = number(left, 1, 48)?;
-    complete(DayLine::Sheets { count }, left)
+    let account = words.number(0, 63)?;
+    let cents = words.read()?;
+    words.end(DayLine::Limit { account, cents })
 }
 
-fn limit(left: Option<&[u8]>) -> Option<DayLine>
-    ensures { result ≡ limit_of (words_left (option_map (λ x. x.now) left.entry)) }
+// Kept: this and `position`, as `open` and `demand`, read as many words, but not the same kinds of number; one function for both
+// would be generic over each word, and take a closure that names the fields a second time.
+fn register(mut words: Words) -> Option<DayLine>
+    ensures { result ≡ register_of words.entry }
 {
-    let (account, left) = number(left, 0, 63)?;
-    let (cents, left) = cents(left)?;
-    complete(DayLine::Limit { account, cents }, left)
-}
-
-fn register(left: Option<&[u8]>) -> Option<DayLine>
-    ensures { result ≡ register_of (words_left (option_map (λ x. x.now) left.entry)) }
-{
-    let (account, left) = number(left, 0, u32::MAX)?;
-    let (loss_factor, left) = number(left, 0, u32::MAX)?;
-    let (capacity, left) = number(left, 0, u32::MAX)?;
-    let (tolerance, left) = number(left, 0, u32::MAX)?;
     let line = DayLine::Register {
-        account,
-        loss_factor,
-        capacity,
-        tolerance,
+        account: words.read()?,
+        loss_factor: words.read()?,
+        capacity: words.read()?,
+        tolerance: words.read()?,
     };
-    complete(line, left)
+    words.end(line)
 }
 
-fn open(left: Option<&[u8]>) -> Option<DayLine>
-    ensures { result ≡ open_of (words_left (option_map (λ x. x.now) left.entry)) }
+fn open(mut words: Words) -> Option<DayLine>
+    ensures { result ≡ open_of words.entry }
 {
-    let (low, left) = integer(left)?;
-    let (high, left) = integer(left)?;
-    complete(DayLine::Open { low, high }, left)
+    let low = words.read()?;
+    let high = words.read()?;
+    words.end(DayLine::Open { low, high })
 }
 
-// The facility and the interval that a line begins with.
-fn read_target(left: Option<&[u8]>) -> Option<(Target, Option<&[u8]>)>
-    ensures { option_map (λ x. (x.0, words_left (option_map (λ x. x.now) x.1))) result ≡ target_of (words_left (option_map (λ x. x.now) left.entry)) }
+// A facility, an interval and a figure, and no other word.
+fn targeted(mut words: Words) -> Option<Target>
+    ensures { result ≡ targeted words.entry }
 {
-    let (facility, left) = number(left, 0, u32::MAX)?;
-    let (interval, left) = number(left, 0, u32::MAX)?;
-    Some((Target { facility, interval }, left))
-}
-
-fn start(left: Option<&[u8]>) -> Option<DayLine>
-    ensures { result ≡ start_of (words_left (option_map (λ x. x.now) left.entry)) }
-{
-    let (target, left) = read_target(left)?;
-    let (kw, left) = number(left, 0, u32::MAX)?;
-    let line = DayLine::Start {
-        facility: target.facility,
-        interval: target.interval,
-        kw,
+    let target = Target {
+        facility: words.read()?,
+        interval: words.read()?,
+        figure: words.read()?,
     };
-    complete(line, left)
+    words.end(target)
 }
 
-fn reading(left: Option<&[u8]>) -> Option<DayLine>
-    ensures { result ≡ reading_of (words_left (option_map (λ x. x.now) left.entry)) }
+fn position(mut words: Words) -> Option<DayLine>
+    ensures { result ≡ position_of words.entry }
 {
-    let (target, left) = read_target(left)?;
-    let (kwmin, left) = number(left, 0, u32::MAX)?;
-    let line = DayLine::Reading {
-        facility: target.facility,
-        interval: target.interval,
-        kwmin,
-    };
-    complete(line, left)
-}
-
-fn adjust(left: Option<&[u8]>) -> Option<DayLine>
-    ensures { result ≡ adjust_of (words_left (option_map (λ x. x.now) left.entry)) }
-{
-    let (target, left) = read_target(left)?;
-    let (kwmin, left) = number(left, 0, u32::MAX)?;
-    let line = DayLine::Adjust {
-        facility: target.facility,
-        interval: target.interval,
-        kwmin,
-    };
-    complete(line, left)
-}
-
-fn position(left: Option<&[u8]>) -> Option<DayLine>
-    ensures { result ≡ position_of (words_left (option_map (λ x. x.now) left.entry)) }
-{
-    let (account, left) = number(left, 0, u32::MAX)?;
-    let (interval, left) = number(left, 0, u32::MAX)?;
-    let (contract, left) = integer(left)?;
-    let (load, left) = number(left, 0, u32::MAX)?;
     let line = DayLine::Position {
-        account,
-        interval,
-        contract,
-        load,
+        account: words.read()?,
+        interval: words.read()?,
+        contract: words.read()?,
+        load: words.read()?,
     };
-    complete(line, left)
+    words.end(line)
 }
 
-fn demand(left: Option<&[u8]>) -> Option<DayLine>
-    ensures { result ≡ demand_of (words_left (option_map (λ x. x.now) left.entry)) }
+fn demand(mut words: Words) -> Option<DayLine>
+    ensures { result ≡ demand_of words.entry }
 {
-    let (interval, left) = number(left, 0, u32::MAX)?;
-    let (kw, left) = number(left, 0, u32::MAX)?;
-    complete(DayLine::Demand { interval, kw }, left)
+    let interval = words.read()?;
+    let kw = words.read()?;
+    words.end(DayLine::Demand { interval, kw })
 }
 
-fn close(left: Option<&[u8]>) -> Option<DayLine>
-    ensures { result ≡ close_of (words_left (option_map (λ x. x.now) left.entry)) }
+// An interval, and no other word.
+fn interval(mut words: Words) -> Option<u32>
+    ensures { result ≡ interval_of words.entry }
 {
-    let (interval, left) = number(left, 0, u32::MAX)?;
-    complete(DayLine::Close { interval }, left)
+    let interval = words.read()?;
+    words.end(interval)
 }
 
-fn settle(left: Option<&[u8]>) -> Option<DayLine>
-    ensures { result ≡ settle_of (words_left (option_map (λ x. x.now) left.entry)) }
+// Facility, interval and ramps of a lodge.
+pub fn read_offer(words: &mut Words) -> Option<Offer>
+    ensures { option_map (λ x. (x, words.new)) result ≡ offer_of words.old }
 {
-    let (interval, left) = number(left, 0, u32::MAX)?;
-    complete(DayLine::Settle { interval }, left)
-}
-
-// Facility, interval and ramps of a lodge, and what is left of the line.
-pub fn read_offer(left: Option<&[u8]>) -> Option<(Offer, Option<&[u8]>)>
-    ensures { option_map (λ x. (x.0, words_left (option_map (λ x. x.now) x.1))) result ≡ offer_of (words_left (option_map (λ x. x.now) left.entry)) }
-{
-    let (facility, left) = number(left, 0, u32::MAX)?;
-    let (interval, left) = number(left, 0, u32::MAX)?;
-    let (ramp_up, left) = number(left, 0, u32::MAX)?;
-    let (ramp_down, left) = number(left, 0, u32::MAX)?;
-    let offer = Offer {
-        facility,
-        interval,
-        ramp_up,
-        ramp_down,
-    };
-    Some((offer, left))
+    Some(Offer {
+        facility: words.read()?,
+        interval: words.read()?,
+        ramp_up: words.read()?,
+        ramp_down: words.read()?,
+    })
 }
 
 // A line other than a lodge.
-pub fn plain(word: &[u8], left: Option<&[u8]>) -> Option<DayLine>
-    ensures { result ≡ plain_of word.now (words_left (option_map (λ x. x.now) left.entry)) }
+pub fn plain(word: &[u8], words: Words) -> Option<DayLine>
+    ensures { result ≡ plain_of word.now words.entry }
 {
+    // Kept: one arm a keyword says which form each line has; a table of closures would say no more.
     match keyword_of(word)? {
-        Keyword::Sheets => sheets(left),
-        Keyword::Limit => limit(left),
-        Keyword::Register => register(left),
-        Keyword::Open => open(left),
-        Keyword::Start => start(left),
-        Keyword::Reading => reading(left),
-        Keyword::Position => position(left),
-        Keyword::Demand => demand(left),
-        Keyword::Close => close(left),
-        Keyword::Settle => settle(left),
-        Keyword::Adjust => adjust(left),
+        Keyword::Sheets => sheets(words),
+        Keyword::Limit => limit(words),
+        Keyword::Register => register(words),
+        Keyword::Open => open(words),
+        Keyword::Start => targeted(words).map(|t| DayLine::Start {
+            facility: t.facility,
+            interval: t.interval,
+            kw: t.figure,
+        }),
+        Keyword::Reading => targeted(words).map(|t| DayLine::Reading {
+            facility: t.facility,
+            interval: t.interval,
+            kwmin: t.figure,
+        }),
+        Keyword::Position => position(words),
+        Keyword::Demand => demand(words),
+        Keyword::Close => interval(words).map(|interval| DayLine::Close { interval }),
+        Keyword::Settle => interval(words).map(|interval| DayLine::Settle { interval }),
+        Keyword::Adjust => targeted(words).map(|t| DayLine::Adjust {
+            facility: t.facility,
+            interval: t.interval,
+            kwmin: t.figure,
+        }),
     }
 }

@@ -4,6 +4,6 @@
 mod arguments;
 mod keyword;
 pub mod line;
-mod numbers;
 mod pairs;
 pub mod parse;
+mod words;

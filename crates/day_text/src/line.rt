@@ -1,6 +1,6 @@
 // What a line of a day file says.
 
-#[derive(Clone, Copy)]
+#[derive(Clone, Copy, PartialEq, Eq, Debug)]
 pub enum DayLine {
     // Empty, or a comment.
     Blank,
@@ -24,6 +24,7 @@ pub enum DayLine {
         high: i32,
     },
     // How many pairs it brings; the pairs themselves stand in lent memory.
+    // Kept: their number and no slice of them, so that a line is plain data and the memory is free for its lender.
     Lodge {
         facility: u32,
         interval: u32,

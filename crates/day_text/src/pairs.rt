@@ -1,67 +1,56 @@
 // The pairs of a lodge: counted first, so that memory is written only where all of them are pairs and fit.
 ghost use Rattle.std.specs.Prelude.{◌≡◌, length, Some};
-ghost use Rattle.std.specs.Option.{option_map};
-ghost use Rattle.day_text.specs.Words.{words_left, first, pair_of as pair_spec, all_pairs, counted, fitting, or_none};
+ghost use Rattle.day_text.specs.Words.{all_pairs, counted, fitting, or_none};
 ghost use Rattle.day_text.specs.Lines.{laid};
 
-use crate::numbers::{integer_of, next_word, number_of};
+use crate::words::{FromWord, Words};
 use offers::pair::Pair;
 use text::line::cut;
 
 // A word `price:kW`.
-fn pair_of(word: &[u8]) -> Option<Pair>
-    ensures { result ≡ pair_spec word.now }
-{
-    let (price, kw) = cut(word, b':');
-    let price = integer_of(price)?;
-    let kw = number_of(kw?, 0, u32::MAX)?;
-    Some(Pair { price, kw })
-}
+impl FromWord for Pair {
+    ghost use Rattle.day_text.specs.Words.{pair_of};
 
-fn next_pair(left: Option<&[u8]>) -> Option<(Pair, Option<&[u8]>)>
-    ensures { option_map (λ x. (x.0, words_left (option_map (λ x. x.now) x.1))) result ≡ first pair_spec (words_left (option_map (λ x. x.now) left.entry)) }
-{
-    let (word, left) = next_word(left)?;
-    let pair = pair_of(word)?;
-    Some((pair, left))
+    ghost from_word = { pair_of };
+
+    fn from_word(word: &[u8]) -> Option<Pair> {
+        let (price, kw) = cut(word, b':');
+        let price = i32::from_word(price)?;
+        let kw = u32::from_word(kw?)?;
+        Some(Pair { price, kw })
+    }
 }
 
 // How many pairs the words are, if all of them are pairs and there is room for so many.
-fn count_pairs(left: Option<&[u8]>, room: usize) -> Option<usize>
-    ensures { result ≡ fitting room (counted (words_left (option_map (λ x. x.now) left.entry))) }
+fn count_pairs(mut words: Words, room: usize) -> Option<usize>
+    ensures { result ≡ fitting room (counted words.entry) }
 {
-    let mut rest = left;
-    for n in 0..room {
-        if rest.is_none() {
+    // Kept: the words are no iterator; the range counts them and stops one past the room.
+    for n in 0..=room {
+        let Some(word) = words.next() else {
             return Some(n);
-        }
-        let (_, next) = next_pair(rest)?;
-        rest = next;
+        };
+        Pair::from_word(word)?;
     }
-    if rest.is_none() { Some(room) } else { None }
+    None
 }
 
 // Writes as many pairs as there is memory.
-fn fill(left: Option<&[u8]>, out: &mut [Pair])
-    requires { counted (words_left (option_map (λ x. x.now) left)) ≡ Some (length out.old) }
-    ensures { Some out.new ≡ all_pairs (words_left (option_map (λ x. x.now) left.entry)) }
+fn fill(mut words: Words, out: &mut [Pair])
+    requires { counted words ≡ Some (length out.old) }
+    ensures { Some out.new ≡ all_pairs words.entry }
 {
-    let mut rest = left;
-    for i in 0..out.len() {
-        let Some((pair, next)) = next_pair(rest) else {
-            unreachable()
-        };
-        out[i] = pair;
-        rest = next;
+    for slot in out.iter_mut() {
+        *slot = words.read().unwrap();
     }
 }
 
 // The words as pairs at the front of the memory, and how many; else it is as it was.
-pub fn read_pairs(left: Option<&[u8]>, memory: &mut [Pair]) -> Option<usize>
-    ensures value { result ≡ fitting (length memory.old) (counted (words_left (option_map (λ x. x.now) left.entry))) }
-    ensures after { memory.new ≡ laid memory.old (or_none (all_pairs (words_left (option_map (λ x. x.now) left.entry)))) }
+pub fn read_pairs(words: Words, memory: &mut [Pair]) -> Option<usize>
+    ensures value { result ≡ fitting (length memory.old) (counted words.entry) }
+    ensures after { memory.new ≡ laid memory.old (or_none (all_pairs words.entry)) }
 {
-    let n = count_pairs(left, memory.len())?;
-    fill(left, &mut memory[0..n]);
+    let n = count_pairs(words.again(), memory.len())?;
+    fill(words, &mut memory[0..n]);
     Some(n)
 }

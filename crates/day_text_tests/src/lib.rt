@@ -12,12 +12,8 @@ fn said(line: &[u8]) -> DayLine {
     parse(line, &mut memory)
 }
 
-fn is_blank(line: &[u8]) -> bool {
-    matches!(said(line), DayLine::Blank)
-}
-
 fn is_no_call(line: &[u8]) -> bool {
-    matches!(said(line), DayLine::NotACall)
+    said(line) == DayLine::NotACall
 }
 
 // How many pairs a lodge brings, into a memory of twelve.
@@ -40,78 +36,66 @@ mod tests {
 
     #[test]
     fn each_line(rt: HostRuntime) {
-        assert!(rt; matches!(said(b"sheets 48"), DayLine::Sheets { count: 48 }));
-        assert!(rt;
-            matches!(
-                said(b"limit 63 -9223372036854775808"),
-                DayLine::Limit {
-                    account: 63,
-                    cents: i64::MIN
-                }
-            )
+        assert_eq!(rt; said(b"sheets 48"), DayLine::Sheets { count: 48 });
+        assert_eq!(rt;
+            said(b"limit 63 -9223372036854775808"),
+            DayLine::Limit {
+                account: 63,
+                cents: i64::MIN
+            }
         );
-        assert!(rt;
-            matches!(
-                said(b"register 1 2 3 4"),
-                DayLine::Register {
-                    account: 1,
-                    loss_factor: 2,
-                    capacity: 3,
-                    tolerance: 4
-                }
-            )
+        assert_eq!(rt;
+            said(b"register 1 2 3 4"),
+            DayLine::Register {
+                account: 1,
+                loss_factor: 2,
+                capacity: 3,
+                tolerance: 4
+            }
         );
-        assert!(rt; matches!(said(b"open -5 6"), DayLine::Open { low: -5, high: 6 }));
-        assert!(rt;
-            matches!(
-                said(b"start 0 4294967295 3"),
-                DayLine::Start {
-                    facility: 0,
-                    interval: 4_294_967_295,
-                    kw: 3
-                }
-            )
+        assert_eq!(rt; said(b"open -5 6"), DayLine::Open { low: -5, high: 6 });
+        assert_eq!(rt;
+            said(b"start 0 4294967295 3"),
+            DayLine::Start {
+                facility: 0,
+                interval: 4_294_967_295,
+                kw: 3
+            }
         );
-        assert!(rt;
-            matches!(
-                said(b"reading 1 2 3"),
-                DayLine::Reading {
-                    facility: 1,
-                    interval: 2,
-                    kwmin: 3
-                }
-            )
+        assert_eq!(rt;
+            said(b"reading 1 2 3"),
+            DayLine::Reading {
+                facility: 1,
+                interval: 2,
+                kwmin: 3
+            }
         );
-        assert!(rt;
-            matches!(
-                said(b"position 1 2 -2147483648 4"),
-                DayLine::Position {
-                    account: 1,
-                    interval: 2,
-                    contract: i32::MIN,
-                    load: 4
-                }
-            )
+        assert_eq!(rt;
+            said(b"position 1 2 -2147483648 4"),
+            DayLine::Position {
+                account: 1,
+                interval: 2,
+                contract: i32::MIN,
+                load: 4
+            }
         );
     }
 
     #[test]
     fn each_other_line(rt: HostRuntime) {
-        assert!(rt; matches!(said(b"demand 1 2"), DayLine::Demand { interval: 1, kw: 2 }));
-        assert!(rt; matches!(said(b"close 1"), DayLine::Close { interval: 1 }));
-        assert!(rt; matches!(said(b"settle 1"), DayLine::Settle { interval: 1 }));
-        assert!(rt;
-            matches!(
-                said(b"adjust 1 2 3"),
-                DayLine::Adjust {
-                    facility: 1,
-                    interval: 2,
-                    kwmin: 3
-                }
-            )
+        assert_eq!(rt; said(b"demand 1 2"), DayLine::Demand { interval: 1, kw: 2 });
+        assert_eq!(rt; said(b"close 1"), DayLine::Close { interval: 1 });
+        assert_eq!(rt; said(b"settle 1"), DayLine::Settle { interval: 1 });
+        assert_eq!(rt;
+            said(b"adjust 1 2 3"),
+            DayLine::Adjust {
+                facility: 1,
+                interval: 2,
+                kwmin: 3
+            }
         );
-        assert!(rt; is_blank(b""), "empty");
-        assert!(rt; is_blank(b"#close 1"), "a comment");
+        assert_eq!(rt; said(b""), DayLine::Blank, "empty");
+        assert_eq!(rt; said(b"#close 1"), DayLine::Blank, "a comment");
         assert!(rt; is_no_call(b" "), "a space");
         assert!(rt; is_no_call(b" # no comment"), "a space before #");
     }
@@ -155,21 +139,17 @@ mod tests {
     #[test]
     fn memory(rt: HostRuntime) {
         let mut memory = [Pair { price: 7, kw: 8 }; 2];
-        assert!(rt;
-            matches!(
-                parse(b"lodge 1 2 3 4 5:6 1:1 1:1", &mut memory),
-                DayLine::NotACall
-            )
+        assert_eq!(rt;
+            parse(b"lodge 1 2 3 4 5:6 1:1 1:1", &mut memory),
+            DayLine::NotACall
         );
         assert!(rt;
             memory[0].price == 7 && memory[1].kw == 8,
             "no room for three"
         );
-        assert!(rt;
-            matches!(
-                parse(b"lodge 1 2 3 4 5:6 x", &mut memory),
-                DayLine::NotACall
-            )
+        assert_eq!(rt;
+            parse(b"lodge 1 2 3 4 5:6 x", &mut memory),
+            DayLine::NotACall
         );
         assert!(rt; memory[0].price == 7, "not all are pairs");
         assert!(rt;

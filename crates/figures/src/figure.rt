@@ -1,102 +1,74 @@
 // A figure as it should be and as it is.
-ghost use Rattle.std.specs.Prelude.{◌≡◌, ◌+◌, min, if◌then◌else◌, Some, codes};
-ghost use Rattle.figures.specs.Answers.{whole, same, directed};
+ghost use Rattle.std.specs.Prelude.{◌≡◌, ◌+◌, min, if◌then◌else◌};
+ghost use Rattle.figures.specs.Answers.{same, verdict};
 
 use schedule::direction::OutOfMerit;
 use std::fmt;
 
 // How many figures were shown, and how many of them differ.
-#[derive(Clone, Copy)]
+#[derive(Clone, Copy, Default)]
 pub struct Tally {
     pub shown: u32,
     pub differ: u32,
 }
 
-// One more, up to the end of the type.
-fn raised(n: u32) -> u32
-    ensures { result ≡ min (n + 1) 4294967295 }
-{
-    n.saturating_add(1)
-}
-
 impl Tally {
-    // One figure more, equal or not.
-    pub fn with(self, equal: bool) -> Tally
-        ensures shown { result.shown ≡ min (self.shown + 1) 4294967295 }
-        ensures differ { result.differ ≡ (if equal then self.differ else min (self.differ + 1) 4294967295) }
+    // One figure more, equal or not, up to the end of the type.
+    pub fn count(&mut self, equal: bool)
+        ensures shown { self.new.shown ≡ min (self.old.shown + 1) 4294967295 }
+        ensures differ { self.new.differ ≡ (if equal then self.old.differ else min (self.old.differ + 1) 4294967295) }
     {
-        let shown = raised(self.shown);
-        if equal {
-            Tally {
-                shown,
-                differ: self.differ,
-            }
-        } else {
-            Tally {
-                shown,
-                differ: raised(self.differ),
-            }
+        self.shown = self.shown.saturating_add(1);
+        if !equal {
+            self.differ = self.differ.saturating_add(1);
         }
     }
 }
 
 // What a call answers: a figure or nothing.
-#[derive(Clone, Copy)]
+#[derive(Clone, Copy, PartialEq, Eq, Debug)]
 pub struct Answer {
     pub figure: Option<i128>,
 }
 
-impl Answer {
-    pub fn same_as(self, other: Answer) -> bool
-        ensures { result ≡ same self.figure other.figure }
-    {
-        match (self.figure, other.figure) {
-            (Some(x), Some(y)) => x == y,
-            (None, None) => true,
-            (Some(_), None) => false,
-            (None, Some(_)) => false,
+impl<T: Into<i128>> From<Option<T>> for Answer {
+    ghost use Rattle.std.specs.Prelude.{◌≡◌, None, MatchOption};
+    ghost use Rattle.std.specs.Option.{IsSomeAnd};
+
+    ghost from_gives = { λ x y. MatchOption x (y.figure ≡ None) (λ n. IsSomeAnd y.figure (T.converts n)) };
+
+    fn from(x: Option<T>) -> Answer {
+        Answer {
+            figure: x.map(T::into),
         }
     }
+}
 
-    pub fn natural(x: Option<u64>) -> Answer
-        ensures { result.figure ≡ whole x }
-    {
-        match x {
-            Some(n) => Answer {
-                figure: Some(n as i128),
-            },
-            None => Answer { figure: None },
-        }
-    }
+// Upward energy as it is, downward energy below zero.
+impl From<OutOfMerit> for Answer {
+    ghost use Rattle.std.specs.Prelude.{◌≡◌, Some};
+    ghost use Rattle.figures.specs.Answers.{directed};
 
-    pub fn signed(x: Option<i64>) -> Answer
-        ensures { result.figure ≡ x }
-    {
-        match x {
-            Some(n) => Answer {
-                figure: Some(n as i128),
-            },
-            None => Answer { figure: None },
-        }
-    }
+    ghost from_gives = { λ x y. y.figure ≡ Some (directed x) };
 
-    // Upward energy as it is, downward energy below zero.
-    pub fn directed(m: OutOfMerit) -> Answer
-        ensures { result.figure ≡ Some (directed m) }
-    {
-        match m {
-            OutOfMerit::Upward(x) => Answer {
-                figure: Some(x as i128),
-            },
-            OutOfMerit::Downward(x) => Answer {
-                figure: Some(-(x as i128)),
-            },
-            OutOfMerit::Neither => Answer { figure: Some(0) },
+    fn from(energy: OutOfMerit) -> Answer {
+        let figure = match energy {
+            OutOfMerit::Upward(x) => i128::from(x),
+            OutOfMerit::Downward(x) => -i128::from(x),
+            OutOfMerit::Neither => 0,
+        };
+        Answer {
+            figure: Some(figure),
         }
     }
 }
 
 impl fmt::Display for Answer {
+    ghost use Rattle.std.specs.Prelude.{Some};
+    ghost use Rattle.figures.specs.Answers.{told};
+
+    ghost output = { λ x. Some (told x.figure) };
+
     fn fmt<W: fmt::Write>(&self, f: &mut fmt::Formatter<W>) -> fmt::Result {
         match self.figure {
             Some(x) => write!(f, "{x}"),
@@ -113,34 +85,39 @@ pub struct Figure {
 }
 
 impl Figure {
-    pub fn of(expected: u64, computed: u64) -> Figure
-        ensures expected { result.expected.figure ≡ whole (Some expected) }
-        ensures computed { result.computed.figure ≡ whole (Some computed) }
+    pub fn of<E: Into<Answer>, C: Into<Answer>>(expected: E, computed: C) -> Figure
+        ensures expected { E.converts expected result.expected }
+        ensures computed { C.converts computed result.computed }
     {
         Figure {
-            expected: Answer::natural(Some(expected)),
-            computed: Answer::natural(Some(computed)),
+            expected: expected.into(),
+            computed: computed.into(),
         }
     }
 
     pub fn is_equal(self) -> bool
         ensures { result ≡ same self.computed.figure self.expected.figure }
     {
-        self.computed.same_as(self.expected)
+        self.computed == self.expected
+    }
+
+    fn verdict(self) -> &'static str
+        ensures { result.now ≡ verdict self.expected.figure self.computed.figure }
+    {
+        if self.is_equal() { "equal" } else { "DIFFERS" }
     }
 }
 
-fn verdict(equal: bool) -> &'static str
-    ensures { result.now ≡ (if equal then codes "equal" else codes "DIFFERS") }
-{
-    if equal { "equal" } else { "DIFFERS" }
-}
-
 impl fmt::Display for Figure {
+    ghost use Rattle.std.specs.Prelude.{Some};
+    ghost use Rattle.figures.specs.Answers.{compared};
+
+    ghost output = { λ x. Some (compared x.expected.figure x.computed.figure) };
+
     fn fmt<W: fmt::Write>(&self, f: &mut fmt::Formatter<W>) -> fmt::Result {
         let expected = self.expected;
         let computed = self.computed;
-        let word = verdict(self.is_equal());
-        write!(f, "expected {expected}, computed {computed}, {word}")
+        let verdict = self.verdict();
+        write!(f, "expected {expected}, computed {computed}, {verdict}")
     }
 }

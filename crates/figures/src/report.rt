@@ -1,105 +1,39 @@
 // Each figure in a line: what it is, what it should be, what it came to, and whether the two are equal.
-use crate::cases::{ADJUSTED, Adjusting, CASES, Case, ENERGIES, LEVIES, Levying, Ramping, Setting};
-use crate::figure::{Answer, Figure, Tally};
+use crate::cases::{ADJUSTED, CASES, Case, ENERGIES, LEVIES, Setting};
+use crate::figure::{Figure, Tally};
+use crate::worked::Worked;
 use offers::curve::Curve;
 use offers::submission::Submission;
 use schedule::block::Blocks;
-use schedule::round::{adjusted_price, cents_of};
-use schedule::sharing::levy;
-use schedule::span::{BalancingPrice, LossFactor};
+use schedule::round::cents_of;
+use schedule::span::BalancingPrice;
 use schedule::station::Station;
+use std::fmt::Display;
 use std::io;
 
-pub fn all_figures(rt: &HostRuntime) -> io::Result<Tally> {
-    let tally = adjusted_prices(
-        rt,
-        Tally {
-            shown: 0,
-            differ: 0,
-        },
-    )?;
-    let tally = energies(rt, tally)?;
-    let tally = stations(rt, tally)?;
-    levies(rt, tally)
-}
-
-fn adjusted_prices(rt: &HostRuntime, mut tally: Tally) -> io::Result<Tally> {
-    for a in &ADJUSTED {
-        let figure = adjusting(a);
-        let price = a.price;
-        let factor = a.factor;
-        println!(rt; "adjusted price of {price} at factor {factor}: {figure}")?;
-        tally = tally.with(figure.is_equal());
-    }
-    Ok(tally)
-}
-
-fn adjusting(a: &Adjusting) -> Figure {
-    let expected = Answer::signed(a.adjusted);
-    match LossFactor::new(a.factor) {
-        Some(factor) => Figure {
-            expected,
-            computed: Answer::signed(Some(adjusted_price(a.price, factor))),
-        },
-        None => Figure {
-            expected,
-            computed: Answer { figure: None },
-        },
-    }
-}
-
-fn energies(rt: &HostRuntime, mut tally: Tally) -> io::Result<Tally> {
-    for r in &ENERGIES {
-        let figure = ramping(r);
-        let start = r.ramp.start;
-        let up = r.ramp.up;
-        let down = r.ramp.down;
-        let target = r.target;
-        println!(rt; "energy from {start} up {up} down {down} to {target}: {figure}")?;
-        tally = tally.with(figure.is_equal());
-    }
-    Ok(tally)
-}
-
-fn ramping(r: &Ramping) -> Figure {
-    Figure::of(r.energy, r.ramp.energy(r.target))
-}
-
-fn levies(rt: &HostRuntime, mut tally: Tally) -> io::Result<Tally> {
-    for l in &LEVIES {
-        let figure = levying(l);
-        let total = l.total;
-        let account = l.account;
-        println!(rt; "levy of {total} on account {account}: {figure}")?;
-        tally = tally.with(figure.is_equal());
-    }
-    Ok(tally)
-}
-
-fn levying(l: &Levying) -> Figure {
-    let computed = levy(l.total, &l.loads, l.account);
-    Figure {
-        expected: Answer::natural(l.levy),
-        computed: Answer::natural(computed),
-    }
-}
-
-fn stations(rt: &HostRuntime, mut tally: Tally) -> io::Result<Tally> {
+pub fn all_figures(rt: &impl Print) -> io::Result<Tally> {
+    let mut tally = Tally::default();
+    list(rt, &mut tally, &ADJUSTED)?;
+    list(rt, &mut tally, &ENERGIES)?;
     for c in &CASES {
-        tally = station(rt, tally, c)?;
+        station(rt, &mut tally, c)?;
     }
+    list(rt, &mut tally, &LEVIES)?;
     Ok(tally)
 }
 
-fn line(
-    rt: &HostRuntime,
-    tally: Tally,
-    what: &str,
-    which: &str,
-    figure: Figure,
-) -> io::Result<Tally> {
-    println!(rt; "{what}, {which}: {figure}")?;
-    Ok(tally.with(figure.is_equal()))
+// Kept: where to print and what was counted go together, but a struct of both would be borrowed whole while a figure is printed.
+fn line(rt: &impl Print, tally: &mut Tally, what: &impl Display, figure: Figure) -> io::Result<()> {
+    println!(rt; "{what}: {figure}")?;
+    tally.count(figure.is_equal());
+    Ok(())
+}
+
+fn list<W: Worked>(rt: &impl Print, tally: &mut Tally, entries: &[W]) -> io::Result<()> {
+    for entry in entries {
+        line(rt, tally, entry, entry.figure())?;
+    }
+    Ok(())
 }
 
 fn station_of(s: &Setting, reading: u32) -> Option<Station> {
@@ -113,67 +47,39 @@ fn station_of(s: &Setting, reading: u32) -> Option<Station> {
 }
 
 // A station or a price out of its span is told as a figure that differs.
-fn station(rt: &HostRuntime, tally: Tally, c: &Case) -> io::Result<Tally> {
+fn station(rt: &impl Print, tally: &mut Tally, c: &Case) -> io::Result<()> {
+    let what = c.what;
+    let differs = Figure::of(Some(1u64), Some(0u64));
     let Some(station) = station_of(&c.setting, c.reading) else {
-        return line(rt, tally, c.what, "stations", Figure::of(1, 0));
+        return line(rt, tally, &format_args!("{what}, stations"), differs);
     };
-    let Some(price) = BalancingPrice::new(c.price) else {
-        return line(rt, tally, c.what, "prices", Figure::of(1, 0));
+    let Ok(price) = BalancingPrice::try_from(c.price) else {
+        return line(rt, tally, &format_args!("{what}, prices"), differs);
     };
-    let out = Figure {
-        expected: Answer::signed(Some(c.out_of_merit)),
-        computed: Answer::directed(station.out_of_merit(price)),
-    };
+    let upper = Figure::of(Some(c.upper), Some(station.upper(price)));
+    let lower = Figure::of(Some(c.lower), Some(station.lower(price)));
+    let out = Figure::of(Some(c.out_of_merit), station.out_of_merit(price));
     let blocks = station.blocks(price);
-    let tally = line(
-        rt,
-        tally,
-        c.what,
-        "upper schedule",
-        Figure::of(c.upper, station.upper(price)),
-    )?;
-    let tally = line(
-        rt,
-        tally,
-        c.what,
-        "lower schedule",
-        Figure::of(c.lower, station.lower(price)),
-    )?;
-    let tally = line(rt, tally, c.what, "out of merit", out)?;
-    let tally = taken(rt, tally, c, &blocks)?;
-    let tally = line(
-        rt,
-        tally,
-        c.what,
-        "non-qualifying",
-        Figure::of(c.rest, blocks.rest),
-    )?;
-    line(
-        rt,
-        tally,
-        c.what,
-        "cents",
-        Figure::of(c.cents, cents_of(station.part(price))),
-    )
+    let rest = Figure::of(Some(c.rest), Some(blocks.rest));
+    let cents = Figure::of(Some(c.cents), Some(cents_of(station.part(price))));
+    line(rt, tally, &format_args!("{what}, upper schedule"), upper)?;
+    line(rt, tally, &format_args!("{what}, lower schedule"), lower)?;
+    line(rt, tally, &format_args!("{what}, out of merit"), out)?;
+    taken(rt, tally, c, &blocks)?;
+    line(rt, tally, &format_args!("{what}, non-qualifying"), rest)?;
+    line(rt, tally, &format_args!("{what}, cents"), cents)
 }
 
 // Each block in its order; nothing stands for a block that is missing or one too many.
-fn taken(rt: &HostRuntime, mut tally: Tally, c: &Case, blocks: &Blocks) -> io::Result<Tally> {
-    let listed = blocks.listed();
+fn taken(rt: &impl Print, tally: &mut Tally, c: &Case, blocks: &Blocks) -> io::Result<()> {
     let what = c.what;
+    let listed = blocks.listed();
+    // Kept: the longer list gives the number of lines; `zip` stops with the shorter, and `zip_longest` gives a third type to take apart.
     for i in 0..listed.len().max(c.taken.len()) {
-        let energy = if i < listed.len() {
-            Some(listed[i].energy)
-        } else {
-            None
-        };
-        let figure = Figure {
-            expected: Answer::natural(c.taken.get(i).copied()),
-            computed: Answer::natural(energy),
-        };
+        let computed = listed.get(i).map(|taken| taken.energy);
+        let figure = Figure::of(c.taken.get(i).copied(), computed);
         let number = i + 1;
-        println!(rt; "{what}, block {number}: {figure}")?;
-        tally = tally.with(figure.is_equal());
+        line(rt, tally, &format_args!("{what}, block {number}"), figure)?;
     }
-    Ok(tally)
+    Ok(())
 }

@@ -9,6 +9,7 @@ use submission_text::answer::answer_to;
 
 // Fills the memory from the front until it is full or the input ends, and answers how much came.
 // A pipe may hand over fewer bytes than are asked for, so one read is not enough.
+// Kept: of std's methods that read on, `read_to_end` takes a Vec, and `read_exact` refuses an input that ends early.
 fn fill<R: Read>(input: &mut R, memory: &mut [u8]) -> io::Result<usize>
     ensures { IfOk result (λ n. n ≤ length memory.old) }
 {

@@ -1,6 +1,7 @@
 -- What posts leave in the memory: their lines behind those that stood there, and all else as it was.
 use Rattle.std.specs.Prelude.{◌≡◌, ℕ, ◌+◌, ◌≤◌, List, [], ◌++◌, map, length, take, drop}
-use Rattle.std.proofs.Common.{arith, sym, ap, ◌∙◌}
+use Rattle.std.proofs.Common.{sym, ap, ◌∙◌, add_assoc, add-zero}
+use Rattle.std.proofs.Math.Nat.{le_trans, min-le_left}
 use Rattle.std.proofs.Math.Seq.{drop-append-add}
 use Rattle.std.proofs.lemmas.List.{append_assoc, append-nil, map-append, length-append, length-map, length-take-le, take-append-drop, take_at, drop-drop}
 use Rattle.ledger.specs.Posting.{Post}
@@ -20,7 +21,7 @@ pub record Extended (before : List Line) (n : ℕ) (ps : List Post) (after : Lis
 
 pub extended_none : (ls : List Line) (n : ℕ) → Extended ls n [] ls n
 extended_none ls n = record {
-  used = omega arith;
+  used = sym (add-zero n);
   lines = sym (ap (λ xs. xs ++ drop n ls) (append-nil (take n ls)) ∙ take-append-drop n ls);
 }
 
@@ -30,11 +31,10 @@ module _ (xs : List Line) (n : ℕ) (ps : List Post) (ys : List Line) (m : ℕ) 
 
   front_length : length front ≡ m
   front_length =
-      let a = length-append (take n xs) (lines_of ps) in
-      let b = length-take-le n xs (omega arith) in
-      let c = length-map ps line_of in
-      let d = g.used in
-      omega arith
+      length-append (take n xs) (lines_of ps)
+      ∙ ap (λ k. k + length (lines_of ps)) (length-take-le n xs (le_trans within (min-le_left (length xs) 4096)))
+      ∙ ap (λ k. n + k) (length-map ps line_of)
+      ∙ sym g.used
 
   front_stands : take m ys ≡ front
   front_stands = ap (take m) g.lines ∙ take_at front (drop m xs) m front_length
@@ -42,20 +42,18 @@ module _ (xs : List Line) (n : ℕ) (ps : List Post) (ys : List Line) (m : ℕ) 
   module _ (qs : List Post) (zs : List Line) (k : ℕ) (h : Extended ys m qs zs k) where
     behind : drop k ys ≡ drop k xs
     behind =
-        let f = front_length in
-        let u = h.used in
-        let k_is : k ≡ length front + length qs = omega arith in
+        let k_is : k ≡ length front + length qs = h.used ∙ ap (λ j. j + length qs) (sym front_length) in
         ap (drop k) g.lines
         ∙ ap (λ j. drop j (front ++ drop m xs)) k_is
         ∙ drop-append-add front (drop m xs) (length qs)
         ∙ drop-drop (length qs) m xs
-        ∙ ap (λ j. drop j xs) (sym u)
+        ∙ ap (λ j. drop j xs) (sym h.used)
 
     joined : take m ys ++ lines_of qs ≡ take n xs ++ lines_of (ps ++ qs)
     joined = ap (λ ls. ls ++ lines_of qs) front_stands ∙ append_assoc (take n xs) (lines_of ps) (lines_of qs) ∙ ap (λ ls. take n xs ++ ls) (sym (map-append line_of ps qs))
 
     pub extended_more : Extended xs n (ps ++ qs) zs k
     extended_more = record {
-      used = (let a = g.used in let b = h.used in let c = length-append ps qs in omega arith);
+      used = h.used ∙ ap (λ j. j + length qs) g.used ∙ add_assoc n (length ps) (length qs) ∙ ap (λ j. n + j) (sym (length-append ps qs));
       lines = h.lines ∙ ap (λ ls. ls ++ drop k ys) joined ∙ ap (λ ls. (take n xs ++ lines_of (ps ++ qs)) ++ ls) behind;
     }

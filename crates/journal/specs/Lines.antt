@@ -1,6 +1,7 @@
 -- A journal's lines, and the ledger that they are.
 use Rattle.std.specs.Prelude.{◌≡◌, ℕ, ◌+◌, ◌-◌, ◌<◌, min, cond, List, [], ◌∷◌, ◌++◌, length, take, ℤ, pos, ◌+ℤ◌, neg_ℤ, Some, None, Ok, Err, fold, Option, Result, ◌==◌, slice_index_or, slice_set}
-use Rattle.std.proofs.Common.{arith}
+use Rattle.std.proofs.Common.{lit≤}
+use Rattle.std.proofs.Math.Nat.{le_trans, min-le_right, sub-le}
 use Rattle.std.specs.Int.Signed.{le_z_yes}
 use Rattle.ledger.specs.declared.reason.Reason.{Reason}
 use Rattle.ledger.specs.View.{View, most, InSpan, Sound}
@@ -42,9 +43,9 @@ Spans ls = (a : ℕ) → a < 12 → InSpan (line_sum a ls)
 
 pub journal_sound : (memory : List Line) (used : ℕ) → Spans (take used memory) → Sound (journal_view memory used)
 journal_sound memory used spans = record {
-  some = omega arith;
-  few = omega arith;
-  room = omega arith;
+  some = lit≤ tt;
+  few = lit≤ tt;
+  room = le_trans (sub-le (room memory) (length (take used memory))) (le_trans (min-le_right (length memory) 4096) (lit≤ tt));
   balances = spans;
   lows = λ _ _. (le_z_yes tt, le_z_yes tt);
   highs = λ _ _. (le_z_yes tt, le_z_yes tt);

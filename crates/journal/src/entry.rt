@@ -18,6 +18,7 @@ pub fn enter_all(memory: &mut [Line], posts: &[Line]) -> usize
 {
     let mut journal = Journal::new(memory);
     for line in posts {
+        // Kept: a line that is refused is passed over, so `?` would answer too early.
         let _ = journal.post(line.account as usize, line.cents);
     }
     journal.used()

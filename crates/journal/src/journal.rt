@@ -8,13 +8,14 @@ ghost use Rattle.journal.specs.Lines.{Running, Spans, room, journal_view, journa
 use crate::line::Line;
 use ledger::accounts::{Accounts, Ledger, MOST};
 use ledger::reason::Reason;
-use ledger::row::refusal_of;
+use ledger::row::check_post;
 
 const ACCOUNTS: usize = 12;
 
 // No more lines than these are used, however long the memory is.
 const LINES: usize = 4_096;
 
+// Kept: the memory is the caller's, so the lines are a lent slice and the number of those in use.
 #[derive(Drop)]
 pub struct Journal<'a> {
     lines: &'a mut [Line],
@@ -46,7 +47,7 @@ impl<'a> Journal<'a> {
         ensures lines { result.now ≡ take self.now.used self.now.lines.now }
         ensures count { length result.now ≡ self.now.used }
     {
-        &self.lines[0..self.used]
+        &self.lines[..self.used]
     }
 
     // How many lines are written.
@@ -71,23 +72,15 @@ impl<'a> Accounts for Journal<'a> {
     }
 
     fn balance(&self, account: usize) -> Option<i64> {
-        if account < ACCOUNTS {
-            Some(self.balances[account])
-        } else {
-            None
-        }
+        self.balances.get(account).copied()
     }
 
     fn lowest(&self, account: usize) -> Option<i64> {
-        if account < ACCOUNTS {
-            Some(-MOST)
-        } else {
-            None
-        }
+        (account < ACCOUNTS).then_some(-MOST)
     }
 
     fn highest(&self, account: usize) -> Option<i64> {
-        if account < ACCOUNTS { Some(MOST) } else { None }
+        (account < ACCOUNTS).then_some(MOST)
     }
 }
 
@@ -104,16 +97,13 @@ impl<'a> Ledger for Journal<'a> {
         ensures written { Written self.old.lines.now self.old.used self.old.balances account cents result self.new.lines.now self.new.used self.new.balances }
         ensures lender { self.new.lines.ghost_name ≡ self.old.lines.ghost_name }
     {
-        if let Some(reason) = refusal_of(self, account, cents) {
-            return Err(reason);
-        }
-        let used = self.used;
-        self.lines[used] = Line {
+        check_post(self, account, cents)?;
+        self.lines[self.used] = Line {
             account: account as u32,
             cents,
         };
         self.balances[account] += cents;
-        self.used = used + 1;
+        self.used += 1;
         Ok(())
     }
 }

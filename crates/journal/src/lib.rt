@@ -3,5 +3,4 @@
 
 pub mod entry;
 pub mod journal;
-pub mod lent;
 pub mod line;

@@ -2,7 +2,6 @@
 #![tactic(auto)]
 
 use journal::journal::Journal;
-use journal::line::Line;
 use ledger::accounts::Ledger;
 
 // Posts one cent to account 0, so many times.
@@ -12,15 +11,11 @@ fn fill(journal: &mut Journal, times: usize) {
     }
 }
 
-fn is_line(line: Line, account: u32, cents: i64) -> bool {
-    line.account == account && line.cents == cents
-}
-
 #[cfg(test)]
 mod tests {
     use super::*;
     use journal::entry::{enter_all, enter_row};
-    use journal::lent::Lent;
+    use journal::line::Line;
     use ledger::accounts::Accounts;
     use ledger::reason::Reason;
     use ledger::row::{RowRefusal, post_row};
@@ -54,7 +49,7 @@ mod tests {
         assert!(rt; journal.post(3, -1_000_000_000_000_000) == Ok(()));
         assert!(rt; journal.places() == 0 && journal.balance(3) == Some(-1_000_000_000_000_000));
         assert!(rt; journal.post(3, 1) == Err(Reason::NoPlaces));
-        assert!(rt; is_line(memory[0], 3, -1_000_000_000_000_000));
+        assert!(rt; memory[0] == line(3, -1_000_000_000_000_000));
     }
 
     fn refused(reason: Reason, place: usize) -> Result<usize, RowRefusal> {
@@ -65,7 +60,7 @@ mod tests {
     fn rows_through_a_limit(rt: HostRuntime) {
         let mut memory = [OLD; 3];
         let mut journal = Journal::new(&mut memory);
-        let mut pile = CreditLimit::new(Lent::new(&mut journal), [500; 64]);
+        let mut pile = CreditLimit::new(&mut journal, [500; 64]);
         assert!(rt;
             post_row(&mut pile, &[0, 501, -501, 0, 0, 0, 0, 0, 0, 0, 0, 0])
                 == refused(Reason::OutOfBounds, 2)
@@ -76,8 +71,8 @@ mod tests {
                 == refused(Reason::NoPlaces, 2)
         );
         assert!(rt; journal.used() == 2 && journal.balance(2) == Some(-500));
-        assert!(rt; is_line(memory[0], 1, 500) && is_line(memory[1], 2, -500));
-        assert!(rt; is_line(memory[2], 99, 7));
+        assert!(rt; memory[0] == line(1, 500) && memory[1] == line(2, -500));
+        assert!(rt; memory[2] == line(99, 7));
     }
 
     #[test]
@@ -85,8 +80,8 @@ mod tests {
         let mut memory = [OLD; 3];
         let posts = [line(0, 5), line(12, 5), line(11, i64::MIN), line(11, -5)];
         assert!(rt; enter_all(&mut memory, &posts) == 2);
-        assert!(rt; is_line(memory[0], 0, 5) && is_line(memory[1], 11, -5));
-        assert!(rt; is_line(memory[2], 99, 7));
+        assert!(rt; memory[0] == line(0, 5) && memory[1] == line(11, -5));
+        assert!(rt; memory[2] == line(99, 7));
     }
 
     #[test]
@@ -94,8 +89,8 @@ mod tests {
         let mut memory = [OLD; 3];
         let answer = enter_row(&mut memory, &[0, 0, 0, 9, 0, 0, 0, -9, 0, 0, 0, 0]);
         assert!(rt; answer == Ok(2));
-        assert!(rt; is_line(memory[0], 3, 9) && is_line(memory[1], 7, -9));
-        assert!(rt; is_line(memory[2], 99, 7));
+        assert!(rt; memory[0] == line(3, 9) && memory[1] == line(7, -9));
+        assert!(rt; memory[2] == line(99, 7));
     }
 
     #[test]
@@ -107,7 +102,7 @@ mod tests {
         assert!(rt; journal.used() == 4_096);
         assert!(rt; journal.post(1, 1) == Err(Reason::NoPlaces));
         assert!(rt; journal.balance(0) == Some(4_096));
-        assert!(rt; is_line(memory[4_095], 0, 1));
+        assert!(rt; memory[4_095] == line(0, 1));
     }
 
     #[test]
@@ -117,6 +112,6 @@ mod tests {
         assert!(rt; journal.places() == 4_096);
         fill(&mut journal, 5_000);
         assert!(rt; journal.posted().len() == 4_096 && journal.places() == 0);
-        assert!(rt; is_line(memory[4_095], 0, 1) && is_line(memory[4_096], 99, 7));
+        assert!(rt; memory[4_095] == line(0, 1) && memory[4_096] == line(99, 7));
     }
 }

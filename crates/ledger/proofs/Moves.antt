@@ -30,15 +30,6 @@ gained_then v w u f h first second = record {
   balances = λ k l. second.balances k (rw first.count l) ∙ ap (λ z. z +ℤ h k) (first.balances k l) ∙ regrouped (v.balance k) (f k) (h k);
 }
 
--- two rows one after the other: each balance gains both amounts, and no more places go than posts were made
-pub moved_gains : (v w u : View) (f h : ℕ → ℤ) (n m : ℕ) → Moved v f n w → Moved w h m u → Gained v (λ k. f k +ℤ h k) u
-moved_gains v w u f h n m first second = gained_then v w u f h first.gained second.gained
-
-pub moved_places : (v w u : View) (f h : ℕ → ℤ) (n m : ℕ) → Moved v f n w → Moved w h m u → (u.places ≤ v.places) × (v.places ≤ u.places + (n + m))
-moved_places v w u f h n m first second =
-    let a = first.fewer in let b = first.enough in let c = second.fewer in let d = second.enough in
-    (omega arith, omega arith)
-
 pub moved_as : (v w : View) (f h : ℕ → ℤ) (n : ℕ) → ((k : ℕ) → h k ≡ f k) → Moved v f n w → Moved v h n w
 moved_as v w f h n same moved = record {
   gained = gained_as v w f h same moved.gained;

@@ -1,13 +1,15 @@
 -- What the refusal of a row says of each amount.
-use Rattle.std.proofs.Common.{◌≡◌, ℕ, zero, suc, ◌+◌, ◌<◌, ◌≤◌, Bool, true, false, cond, ltb, List, [], ◌∷◌, ◌++◌, length, take, ℤ, pos, negsuc, Some, None, Ok, Err, Option, sym, refl, ap, ◌∙◌, subst, ⊎_elim, append_assoc, arith}
+use Rattle.std.proofs.Common.{◌≡◌, ℕ, zero, suc, ◌+◌, ◌<◌, ◌≤◌, Bool, true, false, cond, ltb, List, [], ◌∷◌, ◌++◌, length, take, ℤ, pos, negsuc, Some, None, Ok, Err, Option, sym, refl, ap, ◌∙◌, subst, ⊎_elim, append_assoc, arith, w64, SFits, of_z, to_z}
 use Rattle.std.proofs.lemmas.List.{get_or_past, append-nil, length-take-le, take_more}
+use Rattle.std.specs.Option.{option_or}
+use Rattle.std.proofs.lemmas.Int.{to_z-of_z}
 use Rattle.std.proofs.lemmas.Bool.{cases_lt, cases_Bool, cond-true, cond-false, lt-ltb, le-ltb, ltb-true, ltb-false}
 use Rattle.ledger.specs.declared.reason.Reason.{Reason}
 use Rattle.ledger.specs.declared.reason.Reason.TheVariants.{NoPlaces}
 use Rattle.ledger.specs.declared.row.RowRefusal.{RowRefusal}
 use Rattle.ledger.specs.View.{View}
 use Rattle.ledger.specs.Posting.{refusal}
-use Rattle.ledger.specs.Rows.{post_of, row_posts, non_zero, posts, amount, refused_at, amount_refusal, or_else, first_refused, row_refusal, unless_refused, row_answer}
+use Rattle.ledger.specs.Rows.{post_of, row_posts, non_zero, posts, amount, refused_at, amount_refusal, first_refused, row_refusal, unless_refused, row_answer}
 use Rattle.ledger.proofs.Tested.{taken_because}
 
 pub zero_not_posted : (z : ℤ) → z ≡ pos 0 → non_zero z ≡ false
@@ -18,7 +20,19 @@ not_posted_zero (pos zero) e = refl
 not_posted_zero (pos (suc n)) e = let no : ◌≡◌ {A = ℕ} 0 1 = cc in absurd (omega arith)
 not_posted_zero (negsuc n) e = let no : ◌≡◌ {A = ℕ} 0 1 = cc in absurd (omega arith)
 
-or_parts : (o p : Option RowRefusal) → or_else o p ≡ None → (o ≡ None) × (p ≡ None)
+other_posted : (z : ℤ) → (z ≡ pos 0 → ⊥) → non_zero z ≡ true
+other_posted (pos zero) ne = absurd (ne refl)
+other_posted (pos (suc n)) ne = refl
+other_posted (negsuc n) ne = refl
+
+-- an amount whose 64 bits are zero is zero
+pub zero_by_bits : (z : ℤ) → SFits w64 z → of_z w64 z ≡ 0 → z ≡ pos 0
+zero_by_bits z fits e = sym (to_z-of_z w64 z fits) ∙ ap (to_z w64) e
+
+pub posted_by_bits : (z : ℤ) → (of_z w64 z ≡ 0 → ⊥) → non_zero z ≡ true
+posted_by_bits z ne = other_posted z (λ e. ne (ap (of_z w64) e))
+
+or_parts : (o p : Option RowRefusal) → option_or o p ≡ None → (o ≡ None) × (p ≡ None)
 or_parts None p e = (refl, e)
 or_parts (Some r) p e = let no : ◌≡◌ {A = ℕ} 0 1 = cc in absurd (omega arith)
 

@@ -20,6 +20,11 @@ refusal v a x =
     (cond (v.places == 0) (Some NoPlaces)
     (cond (outside v a (v.balance a +ℤ x)) (Some OutOfBounds) None))
 
+-- passed where nothing refuses, otherwise refused for that reason
+abbrev pub Checked : {E : Type 0} → Option E → Result Unit E → Type 0
+Checked refusal (Ok _) = refusal ≡ None
+Checked refusal (Err e) = refusal ≡ Some e
+
 -- a taken post of x to account a: of that account's bounds nothing is said, they may move
 pub record Posted (v : View) (a : ℕ) (x : ℤ) (w : View) : Type 0 where
   pub count : w.count ≡ v.count

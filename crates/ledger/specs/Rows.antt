@@ -1,5 +1,6 @@
 -- A row of amounts, one for each account from 0, posted all together or not at all.
 use Rattle.std.specs.Prelude.{◌≡◌, ℕ, zero, suc, ◌+◌, ◌<◌, ◌≤◌, Bool, true, false, cond, List, [], ◌∷◌, ◌++◌, ℤ, pos, negsuc, ◌+ℤ◌, Some, None, Ok, Err, count_by, Option, Result, nat_lt, slice_index_or}
+use Rattle.std.specs.Option.{option_map, option_or}
 use Rattle.ledger.specs.declared.reason.Reason.{Reason}
 use Rattle.ledger.specs.declared.reason.Reason.TheVariants.{NoPlaces}
 use Rattle.ledger.specs.declared.row.RowRefusal.{RowRefusal}
@@ -20,21 +21,16 @@ abbrev pub amount : List ℤ → ℕ → ℤ
 amount xs k = slice_index_or xs k (pos 0)
 
 abbrev pub refused_at : ℕ → Option Reason → Option RowRefusal
-refused_at a None = None
-refused_at a (Some r) = Some (record { reason = r; place = a })
+refused_at a = option_map (λ r. record { reason = r; place = a })
 
 -- why the amount x of account a would be refused; zero is not posted
 abbrev pub amount_refusal : View → ℕ → ℤ → Option RowRefusal
 amount_refusal v a x = cond (non_zero x) (refused_at a (refusal v a x)) None
 
-abbrev pub or_else : Option RowRefusal → Option RowRefusal → Option RowRefusal
-or_else None later = later
-or_else (Some e) later = Some e
-
 -- the first account, from a on, whose amount would be refused
 abbrev pub first_refused : View → ℕ → List ℤ → Option RowRefusal
 first_refused v a [] = None
-first_refused v a (x ∷ xs) = or_else (amount_refusal v a x) (first_refused v (a + 1) xs)
+first_refused v a (x ∷ xs) = option_or (amount_refusal v a x) (first_refused v (a + 1) xs)
 
 -- why a row is refused: too few places for all its posts, otherwise the first account that would be refused
 unfoldable pub row_refusal : View → List ℤ → Option RowRefusal

@@ -1,5 +1,6 @@
 // The two halves of a ledger: what it tells, and what takes posts.
-ghost use Rattle.std.specs.Prelude.{◌≡◌, List, [], ◌++◌};
+ghost use Rattle.std.specs.Prelude.{◌≡◌, List, [], ◌++◌, refl};
+ghost use Rattle.std.proofs.Common.{◌∙◌};
 ghost use Rattle.ledger.specs.View.{View, Sound, told};
 ghost use Rattle.ledger.specs.Posting.{Answered, Post, taken};
 
@@ -44,7 +45,48 @@ pub trait Ledger: Accounts {
     // posts and then more posts
     ghost more: { (x y z : Self) (ps qs : List Post) → took x ps y → took y qs z → took x (ps ++ qs) z };
 
+    // Kept: account and cents are all that a post is told; a struct of the two would be taken apart at once.
     fn post(&mut self, account: usize, cents: i64) -> Result<(), Reason>
         ensures answered { Answered (Self.view self.old) account cents result (Self.view self.new) }
         ensures took { Self.took self.old (taken account cents result) self.new };
+}
+
+// A ledger that is lent tells and takes what the ledger itself does: a layer owns the ledger below it, and one that is
+// to be read afterwards is lent to the layer.
+impl<L: Accounts> Accounts for &mut L {
+    ghost view = { λ s. L.view s.now };
+
+    ghost sound = { λ s. L.sound s.now };
+
+    fn accounts(&self) -> usize {
+        (**self).accounts()
+    }
+
+    fn places(&self) -> u16 {
+        (**self).places()
+    }
+
+    fn balance(&self, account: usize) -> Option<i64> {
+        (**self).balance(account)
+    }
+
+    fn lowest(&self, account: usize) -> Option<i64> {
+        (**self).lowest(account)
+    }
+
+    fn highest(&self, account: usize) -> Option<i64> {
+        (**self).highest(account)
+    }
+}
+
+impl<L: Ledger> Ledger for &mut L {
+    ghost took = { λ s ps t. L.took s.now ps t.now × (t.ghost_name ≡ s.ghost_name) };
+
+    ghost none = { λ s. (L.none s.now, refl) };
+
+    ghost more = { λ s t u ps qs f g. (L.more s.now t.now u.now ps qs f.0 g.0, g.1 ∙ f.1) };
+
+    fn post(&mut self, account: usize, cents: i64) -> Result<(), Reason> {
+        (**self).post(account, cents)
+    }
 }

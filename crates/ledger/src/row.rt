@@ -1,7 +1,7 @@
 // Posts a row of twelve amounts, one for each account from 0, to any ledger: all of them or none.
 ghost use Rattle.std.specs.Prelude.{◌≡◌, ◌||◌, pos, ◌+ℤ◌, if◌then◌else◌, Some, None, int_lt};
-ghost use Rattle.ledger.specs.Posting.{refusal};
-ghost use Rattle.ledger.specs.Rows.{non_zero, posts, amount, amount_refusal, first_refused, row_refusal, row_answer, Moved, RowAnswered, row_posts, row_taken_posts};
+ghost use Rattle.ledger.specs.Posting.{refusal, Checked};
+ghost use Rattle.ledger.specs.Rows.{posts, amount, amount_refusal, first_refused, row_refusal, row_answer, Moved, RowAnswered, row_posts, row_taken_posts};
 ghost use Rattle.ledger.specs.Sums.{row_sum, ledger_sum};
 ghost use Rattle.ledger.specs.declared.reason.Reason.TheVariants.{OutOfBounds};
 
@@ -16,76 +16,59 @@ pub struct RowRefusal {
 }
 
 // The new balance may be either bound, and may be past all that 64 bits hold.
-fn bounds_refusal(balance: i64, cents: i64, lowest: i64, highest: i64) -> Option<Reason>
-    ensures { result ≡ (if int_lt (balance +ℤ cents) lowest || int_lt highest (balance +ℤ cents) then Some OutOfBounds else None) }
+fn check_bounds(balance: i64, cents: i64, lowest: i64, highest: i64) -> Result<(), Reason>
+    ensures { Checked (if int_lt (balance +ℤ cents) lowest || int_lt highest (balance +ℤ cents) then Some OutOfBounds else None) result }
 {
     match balance.checked_add(cents) {
-        Some(sum) if lowest <= sum && sum <= highest => None,
-        _ => Some(Reason::OutOfBounds),
+        Some(sum) if lowest <= sum && sum <= highest => Ok(()),
+        _ => Err(Reason::OutOfBounds),
     }
 }
 
-// Why a post would be refused, the first reason that holds.
-pub fn refusal_of<L: Accounts>(ledger: &L, account: usize, cents: i64) -> Option<Reason>
-    ensures { result ≡ refusal (L.view ledger.now) account cents }
+// Whether a ledger would take a post, and if not, why: the first reason that holds.
+pub fn check_post<L: Accounts>(ledger: &L, account: usize, cents: i64) -> Result<(), Reason>
+    ensures { Checked (refusal (L.view ledger.now) account cents) result }
 {
     let (Some(balance), Some(lowest), Some(highest)) = (
         ledger.balance(account),
         ledger.lowest(account),
         ledger.highest(account),
     ) else {
-        return Some(Reason::NoAccount);
+        return Err(Reason::NoAccount);
     };
     if ledger.places() == 0 {
-        return Some(Reason::NoPlaces);
+        return Err(Reason::NoPlaces);
     }
-    bounds_refusal(balance, cents, lowest, highest)
-}
-
-fn non_zero(cents: i64) -> bool
-    ensures { result ≡ non_zero cents }
-{
-    cents != 0
+    check_bounds(balance, cents, lowest, highest)
 }
 
 // How many amounts there are to post.
 fn count_posts(amounts: &[i64; 12]) -> usize
     ensures { result ≡ posts amounts.now }
 {
-    let mut n = 0;
-    for x in amounts {
-        if non_zero(*x) {
-            n += 1;
-        }
-    }
-    n
+    amounts.iter().filter(|cents| **cents != 0).count()
 }
 
-// Why an account's amount alone would be refused; zero is not posted.
-fn amount_refusal<L: Accounts>(ledger: &L, account: usize, cents: i64) -> Option<RowRefusal>
-    ensures { result ≡ amount_refusal (L.view ledger.now) account cents }
+// Whether an account's amount alone would be taken; zero is not posted.
+fn check_amount<L: Accounts>(ledger: &L, account: usize, cents: i64) -> Result<(), RowRefusal>
+    ensures { Checked (amount_refusal (L.view ledger.now) account cents) result }
 {
-    if !non_zero(cents) {
-        return None;
+    if cents == 0 {
+        return Ok(());
     }
-    match refusal_of(ledger, account, cents) {
-        Some(reason) => Some(RowRefusal {
-            reason,
-            place: account,
-        }),
-        None => None,
-    }
+    check_post(ledger, account, cents).map_err(|reason| RowRefusal {
+        reason,
+        place: account,
+    })
 }
 
-fn first_refused<L: Accounts>(ledger: &L, amounts: &[i64; 12]) -> Option<RowRefusal>
-    ensures { result ≡ first_refused (L.view ledger.now) 0 amounts.now }
+fn check_amounts<L: Accounts>(ledger: &L, amounts: &[i64; 12]) -> Result<(), RowRefusal>
+    ensures { Checked (first_refused (L.view ledger.now) 0 amounts.now) result }
 {
-    for (i, x) in amounts.iter().enumerate() {
-        if let Some(refusal) = amount_refusal(ledger, i, *x) {
-            return Some(refusal);
-        }
+    for (account, cents) in amounts.iter().enumerate() {
+        check_amount(ledger, account, *cents)?;
     }
-    None
+    Ok(())
 }
 
 // How many posts the row takes, or why it would be refused.
@@ -99,10 +82,8 @@ pub fn check_row<L: Accounts>(ledger: &L, amounts: &[i64; 12]) -> Result<usize, 
             place: n,
         });
     }
-    match first_refused(ledger, amounts) {
-        Some(refusal) => Err(refusal),
-        None => Ok(n),
-    }
+    check_amounts(ledger, amounts)?;
+    Ok(n)
 }
 
 // Posts each amount that is not zero, in rising order of account.
@@ -111,9 +92,11 @@ fn post_each<L: Ledger>(ledger: &mut L, amounts: &[i64; 12])
     ensures took { L.took ledger.old (row_posts 0 amounts.now) ledger.new }
     ensures moved { Moved (L.view ledger.old) (amount amounts.now) (posts amounts.now) (L.view ledger.new) }
 {
-    for (i, x) in amounts.iter().enumerate() {
-        if non_zero(*x) {
-            let Ok(()) = ledger.post(i, *x) else {
+    // Kept: a loop over the twelve, and not a chain, as each turn posts to the ledger that the last one left.
+    for (account, cents) in amounts.iter().enumerate() {
+        if *cents != 0 {
+            // Kept: an `unwrap` of the unit would read no plainer.
+            let Ok(()) = ledger.post(account, *cents) else {
                 unreachable()
             };
         }

@@ -5,16 +5,14 @@ ghost use Rattle.ledgers.specs.Limits.{limit_at, limited, limited_sound};
 
 use ledger::accounts::{Accounts, Ledger, MOST};
 use ledger::reason::Reason;
-use ledger::row::refusal_of;
+use ledger::row::check_post;
 
 fn limit_of(limits: &[i64; 64], account: usize) -> i64
     ensures { result ≡ limit_at limits.now account }
 {
-    if account < 64 {
-        limits[account].clamp(0, MOST)
-    } else {
-        0
-    }
+    limits
+        .get(account)
+        .map_or(0, |limit| (*limit).clamp(0, MOST))
 }
 
 // It owns the ledger below it, and gives it back.
@@ -75,9 +73,7 @@ impl<L: Ledger> Ledger for CreditLimit<L> {
     ghost more = { λ s t u ps qs f g. (L.more s.below t.below u.below ps qs f.0 g.0, g.1 ∙ f.1) };
 
     fn post(&mut self, account: usize, cents: i64) -> Result<(), Reason> {
-        if let Some(reason) = refusal_of(self, account, cents) {
-            return Err(reason);
-        }
+        check_post(self, account, cents)?;
         self.below.post(account, cents)
     }
 }

@@ -4,7 +4,7 @@ ghost use Rattle.ledgers.specs.Tables.{AllInSpan, table_view, table_sound};
 
 use ledger::accounts::{Accounts, Ledger, MOST};
 use ledger::reason::Reason;
-use ledger::row::refusal_of;
+use ledger::row::check_post;
 
 #[derive(Clone, Copy)]
 pub struct AccountTable {
@@ -34,19 +34,15 @@ impl Accounts for AccountTable {
     }
 
     fn balance(&self, account: usize) -> Option<i64> {
-        if account < 12 {
-            Some(self.balances[account])
-        } else {
-            None
-        }
+        self.balances.get(account).copied()
     }
 
     fn lowest(&self, account: usize) -> Option<i64> {
-        if account < 12 { Some(-MOST) } else { None }
+        (account < 12).then_some(-MOST)
     }
 
     fn highest(&self, account: usize) -> Option<i64> {
-        if account < 12 { Some(MOST) } else { None }
+        (account < 12).then_some(MOST)
     }
 }
 
@@ -58,9 +54,7 @@ impl Ledger for AccountTable {
     ghost more = { λ _ _ _ _ _ _ _. tt };
 
     fn post(&mut self, account: usize, cents: i64) -> Result<(), Reason> {
-        if let Some(reason) = refusal_of(self, account, cents) {
-            return Err(reason);
-        }
+        check_post(self, account, cents)?;
         self.balances[account] += cents;
         Ok(())
     }

@@ -7,7 +7,7 @@ use Rattle.merit.specs.declared.rung.Rung.{Rung}
 use Rattle.merit.specs.Rungs.{merit_order}
 use Rattle.merit.specs.Prices.{total, offered, lesser, least_of, balancing, marginal, owned, priced}
 use Rattle.merit.specs.Claims.{Asked, Balances, LeastPrice, ReachedExactly, MarginalPrice, PricedExactly}
-use Rattle.merit.specs.Ranking.{total_ranked}
+use Rattle.merit.proofs.Ranking.{total_ranked}
 use Rattle.merit.proofs.Margins.{marginal_splits, marginal_none, marginal_some, margin_balances, offered_total}
 
 -- ---- the least of the prices that pass

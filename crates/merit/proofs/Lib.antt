@@ -1,3 +1,5 @@
+pub mod Unwrapping
+pub mod Ranking
 pub mod Margins
 pub mod Least
 pub mod Filling

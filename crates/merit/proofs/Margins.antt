@@ -8,7 +8,7 @@ use Rattle.merit.specs.declared.rung.Rung.{Rung}
 use Rattle.merit.specs.Rungs.{before, ties, merit_order}
 use Rattle.merit.specs.Prices.{total, offered, marginal}
 use Rattle.merit.specs.Claims.{Asked, Balances, Marginal, MarginalFirst}
-use Rattle.merit.specs.Ranking.{merit_in_order, offered_ranked}
+use Rattle.merit.proofs.Ranking.{merit_in_order, offered_ranked}
 
 -- ---- the marginal rung of a list
 at_margin : (xs ys : List Rung) (d : ℕ) (m : Rung) → total xs < d → d ≤ total xs + m.kw → marginal (xs ++ (m ∷ ys)) d ≡ Some m

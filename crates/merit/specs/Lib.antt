@@ -3,4 +3,3 @@ pub mod Prices
 pub mod Held
 pub mod Working
 pub mod Claims
-pub mod Ranking

@@ -3,7 +3,7 @@ ghost use Rattle.merit.specs.Claims as claimed;
 
 // The price is the least that reaches the demand, the marginal rung is the first that does, the merit order has each pair once,
 // and a closed or settled sheet has a price.
-pub fn merit_holds() -> u8
+pub fn merit_holds()
     ensures price { claimed.LeastPrice }
     ensures reached { claimed.ReachedExactly }
     ensures first { claimed.MarginalFirst }
@@ -12,6 +12,4 @@ pub fn merit_holds() -> u8
     ensures order { claimed.MeritOrder }
     ensures offers { claimed.EachPairOnce }
     ensures past { claimed.PastClose }
-{
-    0
-}
+{}

@@ -3,6 +3,7 @@ ghost use Rattle.std.specs.Prelude.{◌≡◌, ◌≤◌, length, is_some};
 ghost use Rattle.std.specs.Option.{option_map};
 ghost use Rattle.sheets.specs.Sheets.{reaches};
 ghost use Rattle.merit.specs.Prices.{marginal};
+ghost use Rattle.merit.specs.Rungs.{merit_order as ranked_offers};
 ghost use Rattle.merit.specs.Held.{facilities_in, figures_in, offers_in, price_in};
 ghost use Rattle.merit.specs.Working.{laid, Orders, Clears};
 
@@ -15,6 +16,7 @@ use sheets::sheet::Sheet;
 fn first_reaching(rungs: &[Rung], demand: u32) -> Option<Rung>
     ensures { result ≡ marginal rungs.now demand }
 {
+    // Kept: a chain would have to carry what is left from rung to rung, which the loop says outright.
     let mut left = demand;
     for r in rungs {
         if r.kw >= left {
@@ -25,6 +27,7 @@ fn first_reaching(rungs: &[Rung], demand: u32) -> Option<Rung>
     None
 }
 
+// Kept: the working rungs are the caller's, lent for the one call, so they come beside the sheet, and how many are in use is answered beside them.
 // Lays the merit order of the sheet's offers into the front of the working rungs, and tells how many there are.
 fn lay_sheet(sheet: &Sheet, working: &mut [Rung]) -> usize
     requires { 96 ≤ length working.old }
@@ -33,6 +36,16 @@ fn lay_sheet(sheet: &Sheet, working: &mut [Rung]) -> usize
     ensures slots { working.new ≡ laid (offers_in sheet.now) working.old }
 {
     lay_offers(working, sheet.facilities(), sheet.figures())
+}
+
+// Lays the merit order, and answers the marginal rung: the first that reaches the demand.
+fn marginal_rung(sheet: &Sheet, demand: u32, working: &mut [Rung]) -> Option<Rung>
+    requires { 96 ≤ length working.old }
+    ensures value { result ≡ marginal (ranked_offers (offers_in sheet.now)) demand }
+    ensures slots { working.new ≡ laid (offers_in sheet.now) working.old }
+{
+    let n = lay_sheet(sheet, working);
+    first_reaching(&working[0..n], demand)
 }
 
 // The merit order of the sheet's offers, in the front of the working rungs; it tells how many there are.
@@ -54,11 +67,8 @@ pub fn balancing_price(sheet: &Sheet) -> Option<(BalancingPrice, u32)>
 {
     let demand = sheet.demand()?;
     let mut working = [Rung::blank(); RUNGS];
-    let n = lay_sheet(sheet, &mut working);
-    let marginal = first_reaching(&working[0..n], demand)?;
-    let Some(price) = BalancingPrice::new(marginal.price) else {
-        unreachable()
-    };
+    let marginal = marginal_rung(sheet, demand, &mut working)?;
+    let price = BalancingPrice::try_from(marginal.price).unwrap();
     Some((price, marginal.facility))
 }
 
@@ -71,9 +81,6 @@ pub fn clearing(sheet: &Sheet, working: &mut [Rung]) -> Option<(i64, u32)>
     if working.len() < RUNGS || sheet.offered() < u64::from(demand) {
         return None;
     }
-    let n = lay_sheet(sheet, working);
-    let Some(marginal) = first_reaching(&working[0..n], demand) else {
-        unreachable()
-    };
+    let marginal = marginal_rung(sheet, demand, working).unwrap();
     Some((marginal.price, marginal.facility))
 }

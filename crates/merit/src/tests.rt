@@ -25,11 +25,8 @@ fn four_stations() -> Option<Register> {
     register.add(station(10_000, 20_000))?;
     register.add(station(10_000, 20_000))?;
     register.add(station(12_500, 20_000))?;
-    if register.open(Prices { low: 0, high: 100 }) {
-        Some(register)
-    } else {
-        None
-    }
+    let opened = register.open(Prices { low: 0, high: 100 });
+    opened.then_some(register)
 }
 
 fn offering(pairs: &[Pair]) -> Option<Figures> {

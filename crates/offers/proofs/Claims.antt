@@ -11,7 +11,7 @@ use Rattle.offers.proofs.Tests.{and_first, and_second, and_both}
 use Rattle.offers.proofs.Merging.{prices_equal}
 use Rattle.offers.proofs.InForm.{rises_curve, curve_some}
 use Rattle.offers.proofs.Sums.{summed_curve, summed_shuffled, offered_none, offered_joins}
-use Rattle.offers.proofs.Equal.{same_equal, equal_same}
+use Rattle.offers.proofs.Equal.{pairs_decide}
 
 pub curve_in_form : InForm
 curve_in_form ps = and_both (all some_kw (curve ps)) _ (curve_some ps) (rises_curve ps)
@@ -102,4 +102,4 @@ pub own_curve : OwnCurve
 own_curve ps f = offer_fixes (curve ps) ps (curve_in_form ps) f (same_offer ps)
 
 pub same_pairs_equal : SamePairs
-same_pairs_equal ps qs = (same_equal ps qs, equal_same ps qs)
+same_pairs_equal = pairs_decide

@@ -41,7 +41,8 @@ module _ (f : Pair → ℕ) where
     summed_curve none ps =
         summed_merged (ranked cheaper [] (offering ps)) ∙ omega (arith, summed_ranked [] (offering ps), summed_offering none ps)
 
-  summed_is : (ps : List Pair) → summed f ps ≡ sum_by f ps
+  -- the sum, in std's word
+  pub summed_is : (ps : List Pair) → summed f ps ≡ sum_by f ps
   summed_is [] = refl
   summed_is (p ∷ ps) = ap (λ n. f p + n) (summed_is ps) ∙ sym (sum_by-cons f p ps)
 

@@ -1,8 +1,12 @@
 -- What is claimed of curves, for every list of pairs.
 use Rattle.std.specs.Prelude.{◌≡◌, true, List, ◌∷◌, ℤ}
 use Rattle.std.specs.List.Sorted.{IsPermutation}
-use Rattle.offers.specs.Curves.{kw_at, joined, curve, in_form, same_pairs}
+use Rattle.offers.specs.Curves.{kw_at, joined, curve, in_form, same_pair, same_pairs}
 use Rattle.offers.specs.declared.pair.Pair.{Pair}
+use Rattle.offers.specs.declared.submission.Submission.{Submission}
+use Rattle.offers.specs.contracts.pair.PairPartialEq.TheImpl.{ghosts as pairs}
+use Rattle.offers.specs.contracts.submission.SubmissionPartialEq.TheImpl.{ghosts as submissions}
+use Rattle.offers.specs.Submissions.{same_submission}
 
 -- prices rise strictly, and no pair is empty
 abbrev pub InForm : Type 0
@@ -35,3 +39,10 @@ OwnCurve = (ps : List Pair) → in_form ps ≡ true → curve ps ≡ ps
 -- the test of equality tells equality
 abbrev pub SamePairs : Type 0
 SamePairs = (ps qs : List Pair) → (same_pairs ps qs ≡ true → ps ≡ qs) × (ps ≡ qs → same_pairs ps qs ≡ true)
+
+-- `==`, which is derived, answers by price and kW at two pairs, and by ramps and curve at two submissions
+abbrev pub EqualPairs : Type 0
+EqualPairs = (p q : Pair) → pairs.eq p q ≡ same_pair p q
+
+abbrev pub EqualSubmissions : Type 0
+EqualSubmissions = (s t : Submission) → submissions.eq s t ≡ same_submission s t

@@ -1,5 +1,7 @@
 -- The curve of some pairs: pairs of 0 kW dropped, equal prices merged, by rising price.
-use Rattle.std.specs.Prelude.{ℕ, ◌+◌, Bool, true, false, cond, ◌&&◌, List, [], ◌∷◌, ◌++◌, length, take, drop, replicate, ℤ, pos, Some, None, Option, ◌==◌, int_le, nat_le, nat_lt}
+use Rattle.std.specs.Prelude.{filter, ℕ, ◌+◌, Bool, true, cond, ◌&&◌, List, [], ◌∷◌, ◌++◌, length, take, drop, replicate, ℤ, pos, Some, None, Option, ◌==◌, int_le, nat_le, nat_lt}
+use Rattle.std.specs.Ordering.{int_eq, on, eq_of_both}
+use Rattle.std.specs.Cmp.Lexicographic.{pointwise}
 use Rattle.ladder.specs.Orders.{ranked, lower_int}
 use Rattle.offers.specs.Tests.{all}
 use Rattle.offers.specs.declared.pair.Pair.{Pair}
@@ -37,8 +39,7 @@ abbrev pub some_kw : Pair → Bool
 some_kw p = nat_lt 0 p.kw
 
 abbrev pub offering : List Pair → List Pair
-offering [] = []
-offering (p ∷ ps) = cond (some_kw p) (p ∷ offering ps) (offering ps)
+offering = filter some_kw
 
 abbrev pub joined : Pair → Pair → Pair
 joined p q = record { price = p.price; kw = p.kw + q.kw }
@@ -91,12 +92,15 @@ curve_of ps = cond (nat_le (length ps) 8 && nat_le (total ps) 4294967295) (Some 
 abbrev pub curve_in_form : Curve → Bool
 curve_in_form c = nat_le c.count 8 && in_form (listed c)
 
+-- ---- equality
+-- price and kW are equal
 abbrev pub same_pair : Pair → Pair → Bool
-same_pair p q = same_price p q && p.kw == q.kw
+same_pair = eq_of_both (on (λ p. p.price) int_eq) (on (λ p. p.kw) ◌==◌)
 
 -- pair for pair the same
 abbrev pub same_pairs : List Pair → List Pair → Bool
-same_pairs [] [] = true
-same_pairs [] (q ∷ qs) = false
-same_pairs (p ∷ ps) [] = false
-same_pairs (p ∷ ps) (q ∷ qs) = same_pair p q && same_pairs ps qs
+same_pairs = pointwise same_pair
+
+-- both list the same pairs
+abbrev pub same_curve : Curve → Curve → Bool
+same_curve = on listed same_pairs

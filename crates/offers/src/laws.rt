@@ -1,8 +1,8 @@
 // What holds of every curve.
-ghost use Rattle.offers.specs.Claims.{InForm, SameOffer, OneCurve, Splitting, Emptying, Reordering, OwnCurve, SamePairs};
+ghost use Rattle.offers.specs.Claims.{InForm, SameOffer, OneCurve, Splitting, Emptying, Reordering, OwnCurve, SamePairs, EqualPairs, EqualSubmissions};
 
-// A curve is in form and offers at every price what its pairs offer; equal curves are equal offers.
-pub fn curves_hold() -> u8
+// The call does nothing. A curve is in form and offers at every price what its pairs offer; equal curves are equal offers.
+pub fn curves_hold()
     ensures form { InForm }
     ensures offer { SameOffer }
     ensures one { OneCurve }
@@ -11,6 +11,6 @@ pub fn curves_hold() -> u8
     ensures order { Reordering }
     ensures own { OwnCurve }
     ensures same { SamePairs }
-{
-    0
-}
+    ensures equal_pairs { EqualPairs }
+    ensures equal_submissions { EqualSubmissions }
+{}

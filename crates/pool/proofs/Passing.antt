@@ -1,8 +1,12 @@
 -- What a passed check tells.
-use Rattle.std.proofs.Common.{◌≡◌, ℕ, ◌+◌, Bool, true, false, ◌&&◌, List, [], ◌∷◌, Ok, Err, sym, refl, ap, ◌∙◌, true≢false, arith}
+use Rattle.std.proofs.Common.{◌≡◌, ℕ, ◌+◌, Bool, true, false, ◌&&◌, List, [], ◌∷◌, Some, None, Ok, Err, Option, is_some, sym, refl, ap, ◌∙◌, true≢false, arith}
 use Rattle.refusals.specs.declared.Refusal.{Refusal}
 use Rattle.offers.specs.Tests.{all}
+use Rattle.sheets.specs.declared.register.Register.{Register}
 use Rattle.sheets.specs.declared.row.Figures.{Figures}
+use Rattle.sheets.specs.declared.row.Row.{Row}
+use Rattle.sheets.specs.declared.sheet.Sheet.{Sheet}
+use Rattle.sheets.specs.Changes.{Becomes}
 use Rattle.sheets.specs.Tests.{every}
 use Rattle.sheets.specs.Sheets.{complete}
 use Rattle.pool.specs.Checks.{Check, unless, figures, ◌then◌}
@@ -50,6 +54,7 @@ figures_two_pass k true true h = refl
 figures_two_pass k true false h = cc
 figures_two_pass k false b h = cc
 
--- a test does not both hold and fail
-pub not_both : (b : Bool) → b ≡ true → b ≡ false → ⊥
-not_both b h k = true≢false (sym h ∙ k)
+-- a sheet that takes the change is answered
+pub becomes : (b : Bool) (g : Register) (r : Row) (o : Option Sheet) → Becomes b g r o → b ≡ true → is_some o ≡ true
+becomes b g r None h t = absurd (true≢false (sym t ∙ h))
+becomes b g r (Some s) h t = refl

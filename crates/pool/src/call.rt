@@ -1,6 +1,7 @@
 // The calls with their arguments, and their answers.
 use offers::pair::Pair;
 
+// Kept: facility and interval stand in each call as its arguments do in the table of refusals; a struct of two would be taken apart there.
 #[derive(Clone, Copy)]
 pub enum Call<'a> {
     Register {

@@ -8,7 +8,7 @@ ghost use Rattle.pool.specs.Day.{Does, enough_rungs, has_demand, demand_reached}
 ghost use Rattle.pool.specs.Held.{held};
 ghost use Rattle.pool.specs.Rungs.{rungs_after};
 
-use crate::checks::{after_open, sheet_for, sheet_place};
+use crate::checks::{after_open, sheet_for, sheet_place, unless};
 use merit::price::clearing;
 use merit::rung::Rung;
 use refusals::Refusal;
@@ -19,30 +19,22 @@ use sheets::sheet::Sheet;
 fn rungs_suffice(rungs: usize) -> Result<(), Refusal>
     ensures { result ≡ enough_rungs rungs }
 {
-    if rungs >= 96 {
-        Ok(())
-    } else {
-        Err(Refusal::Length(rungs))
-    }
+    unless(rungs >= 96, Refusal::Length(rungs))
 }
 
 fn demand_there(demand: Option<u32>) -> Result<(), Refusal>
     ensures { result ≡ has_demand demand }
 {
-    match demand {
-        Some(_) => Ok(()),
-        None => Err(Refusal::Missing(0)),
-    }
+    unless(demand.is_some(), Refusal::Missing(0))
 }
 
 // Whether the offers of the sheet reach its demand.
 fn offers_reach(sheet: &Sheet, interval: u32) -> Result<(), Refusal>
     ensures { result ≡ demand_reached (changes.table sheet.now.register.now sheet.now.row) sheet.now.row.demand interval }
 {
-    match sheet.demand() {
-        Some(kw) if u64::from(kw) <= sheet.offered() => Ok(()),
-        _ => Err(Refusal::Short(interval)),
-    }
+    let offered = sheet.offered();
+    let reached = sheet.demand().is_some_and(|kw| u64::from(kw) <= offered);
+    unless(reached, Refusal::Short(interval))
 }
 
 // Closes a sheet. It answers the balancing price and the marginal facility; the working rungs then hold the merit order.
@@ -61,12 +53,8 @@ pub fn close(
     rungs_suffice(rungs.len())?;
     demand_there(sheet.demand())?;
     offers_reach(&sheet, interval)?;
-    let Some(answer) = clearing(&sheet, rungs) else {
-        unreachable()
-    };
-    let Some(sheet) = sheet.closed() else {
-        unreachable()
-    };
+    let answer = clearing(&sheet, rungs).unwrap();
+    let sheet = sheet.closed().unwrap();
     rows[at] = sheet.row();
     Ok(answer)
 }

@@ -5,7 +5,7 @@ ghost use Rattle.pool.specs.Checks.{figures};
 ghost use Rattle.pool.specs.Day.{few_pairs, pair_figures, lodge_figures, in_capacity, submitted, lodged};
 
 use crate::call::Lodged;
-use crate::checks::{figure, in_signed_span, in_span};
+use crate::checks::{figure, unless};
 use offers::curve::Curve;
 use offers::pair::Pair;
 use offers::submission::Submission;
@@ -15,11 +15,7 @@ use sheets::facility::{Facility, Prices};
 pub fn not_too_many(pairs: &[Pair]) -> Result<(), Refusal>
     ensures { result ≡ few_pairs pairs.now }
 {
-    if pairs.len() <= 8 {
-        Ok(())
-    } else {
-        Err(Refusal::Length(pairs.len()))
-    }
+    unless(pairs.len() <= 8, Refusal::Length(pairs.len()))
 }
 
 // The figures of one pair, from a position on.
@@ -27,7 +23,7 @@ fn pair_in_span(prices: Prices, position: u32, p: Pair) -> Result<(), Refusal>
     requires { position ≤ 1000 }
     ensures { result ≡ figures position (pair_figures prices (p ∷ [])) }
 {
-    figure(position, in_signed_span(prices.low, p.price, prices.high))?;
+    figure(position, (prices.low..=prices.high).contains(&p.price))?;
     figure(position + 1, p.kw <= 1_000_000)
 }
 
@@ -35,10 +31,8 @@ fn pairs_in_span(prices: Prices, pairs: &[Pair]) -> Result<(), Refusal>
     requires { length pairs.now ≤ 8 }
     ensures { result ≡ figures 3 (pair_figures prices pairs.now) }
 {
-    let mut position = 3;
-    for p in pairs {
-        pair_in_span(prices, position, *p)?;
-        position += 2;
+    for (place, p) in pairs.iter().enumerate() {
+        pair_in_span(prices, 3 + 2 * place as u32, *p)?;
     }
     Ok(())
 }
@@ -53,8 +47,8 @@ pub fn lodge_in_span(
     requires { length pairs.now ≤ 8 }
     ensures { result ≡ figures 1 (lodge_figures prices ramp_up ramp_down pairs.now) }
 {
-    figure(1, in_span(1, ramp_up, 1_000_000))?;
-    figure(2, in_span(1, ramp_down, 1_000_000))?;
+    figure(1, (1..=1_000_000).contains(&ramp_up))?;
+    figure(2, (1..=1_000_000).contains(&ramp_down))?;
     pairs_in_span(prices, pairs)
 }
 
@@ -70,26 +64,25 @@ pub fn submission_of(
     requires small { total pairs.now ≤ 4294967295 }
     ensures { MatchResult result (λ s. (in_capacity facility number pairs.now ≡ Ok tt) × (s ≡ submitted ramp_up ramp_down pairs.now)) (λ f. in_capacity facility number pairs.now ≡ Err f) }
 {
-    let Some(curve) = Curve::of(pairs) else {
-        unreachable()
-    };
-    if curve.kw() <= u64::from(facility.capacity) {
-        Ok(Submission {
-            ramp_up,
-            ramp_down,
-            curve,
-        })
-    } else {
-        Err(Refusal::Capacity(number))
-    }
+    let curve = Curve::of(pairs).unwrap();
+    unless(
+        curve.kw() <= u64::from(facility.capacity),
+        Refusal::Capacity(number),
+    )?;
+    Ok(Submission {
+        ramp_up,
+        ramp_down,
+        curve,
+    })
 }
 
 // What lodging a submission in the place of another is called.
 pub fn lodged_over(old: Option<Submission>, new: &Submission) -> Lodged
     ensures { result ≡ lodged old new.now }
 {
-    match old {
-        Some(s) if s.same_as(new) => Lodged::Same,
-        _ => Lodged::New,
+    if old == Some(*new) {
+        Lodged::Same
+    } else {
+        Lodged::New
     }
 }

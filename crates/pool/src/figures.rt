@@ -1,4 +1,7 @@
 // The calls that bring a figure: start, reading, position and demand.
+// Kept: register and rows come apart. In a struct of both each call would have to promise that the rows are still the caller's, by the name of
+// the loan, which a plain `&mut [Row]` says by itself.
+// Kept: the four calls differ in check, change and contract, and share the checks; one function of closures would state a contract over each.
 ghost use Rattle.std.specs.Prelude.{◌≡◌, [], ◌∷◌};
 ghost use Rattle.ledger.specs.View.{View};
 ghost use Rattle.sheets.specs.Sheets.{start_fits, reading_fits, contract_fits, load_fits, demand_fits};
@@ -8,10 +11,7 @@ ghost use Rattle.pool.specs.Checks.{figures};
 ghost use Rattle.pool.specs.Day.{Does};
 ghost use Rattle.pool.specs.Held.{held};
 
-use crate::checks::{
-    after_open, facility_place, figure, in_signed_span, in_span, known_account, sheet_for,
-    sheet_place,
-};
+use crate::checks::{after_open, facility_place, figure, known_account, sheet_for, sheet_place};
 use refusals::Refusal;
 use sheets::register::Register;
 use sheets::row::{Event, Position, Row};
@@ -22,6 +22,7 @@ fn start_in_span(kw: u32) -> Result<(), Refusal>
     figure(1, kw <= 1_000_000)
 }
 
+// Kept: here and in the other calls the row is read and written by its place, since after `get_mut` a proof knows the length alone.
 // Keeps a facility's start level.
 pub fn start(
     register: &Register,
@@ -37,9 +38,7 @@ pub fn start(
     let place = facility_place(register, facility)?;
     let sheet = sheet_for(register, rows[at], Event::Figure, interval)?;
     start_in_span(kw)?;
-    let Some(sheet) = sheet.with_start(place, kw) else {
-        unreachable()
-    };
+    let sheet = sheet.with_start(place, kw).unwrap();
     rows[at] = sheet.row();
     Ok(())
 }
@@ -65,9 +64,7 @@ pub fn reading(
     let place = facility_place(register, facility)?;
     let sheet = sheet_for(register, rows[at], Event::Figure, interval)?;
     reading_in_span(kwmin)?;
-    let Some(sheet) = sheet.with_reading(place, kwmin) else {
-        unreachable()
-    };
+    let sheet = sheet.with_reading(place, kwmin).unwrap();
     rows[at] = sheet.row();
     Ok(())
 }
@@ -75,10 +72,7 @@ pub fn reading(
 fn position_in_span(position: Position) -> Result<(), Refusal>
     ensures { result ≡ figures 1 (contract_fits position.contract ∷ (load_fits position.load ∷ [])) }
 {
-    figure(
-        1,
-        in_signed_span(-60_000_000, position.contract, 60_000_000),
-    )?;
+    figure(1, (-60_000_000..=60_000_000).contains(&position.contract))?;
     figure(2, position.load <= 60_000_000)
 }
 
@@ -97,9 +91,7 @@ pub fn position(
     known_account(account)?;
     let sheet = sheet_for(register, rows[at], Event::Figure, interval)?;
     position_in_span(position)?;
-    let Some(sheet) = sheet.with_position(account as usize - 1, position) else {
-        unreachable()
-    };
+    let sheet = sheet.with_position(account as usize - 1, position).unwrap();
     rows[at] = sheet.row();
     Ok(())
 }
@@ -107,7 +99,7 @@ pub fn position(
 fn demand_in_span(kw: u32) -> Result<(), Refusal>
     ensures { result ≡ figures 1 (demand_fits kw ∷ []) }
 {
-    figure(1, in_span(1, kw, 12_000_000))
+    figure(1, (1..=12_000_000).contains(&kw))
 }
 
 // Keeps the demand.
@@ -118,9 +110,7 @@ pub fn demand(register: &Register, rows: &mut [Row], interval: u32, kw: u32) -> 
     let at = sheet_place(rows, interval)?;
     let sheet = sheet_for(register, rows[at], Event::Demand, interval)?;
     demand_in_span(kw)?;
-    let Some(sheet) = sheet.with_demand(kw) else {
-        unreachable()
-    };
+    let sheet = sheet.with_demand(kw).unwrap();
     rows[at] = sheet.row();
     Ok(())
 }

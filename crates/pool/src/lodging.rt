@@ -40,9 +40,7 @@ pub fn lodge(
         pairs,
     )?;
     let answer = lodged_over(rows[at].figures[place].submission, &submission);
-    let Some(sheet) = sheet.with_submission(place, submission) else {
-        unreachable()
-    };
+    let sheet = sheet.with_submission(place, submission).unwrap();
     rows[at] = sheet.row();
     Ok(answer)
 }

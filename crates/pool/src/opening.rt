@@ -9,7 +9,7 @@ ghost use Rattle.pool.specs.Checks.{figures};
 ghost use Rattle.pool.specs.Day.{Does};
 ghost use Rattle.pool.specs.Held.{held};
 
-use crate::checks::{before_open, figure, has_room, in_signed_span, in_span, known_account};
+use crate::checks::{before_open, figure, has_room, known_account};
 use refusals::Refusal;
 use sheets::facility::{Facility, Prices};
 use sheets::register::Register;
@@ -18,9 +18,9 @@ use sheets::register::Register;
 fn facility_in_span(loss_factor: u32, capacity: u32, tolerance: u32) -> Result<(), Refusal>
     ensures { result ≡ figures 1 (facility_figures loss_factor capacity tolerance) }
 {
-    figure(1, in_span(8_000, loss_factor, 12_500))?;
-    figure(2, in_span(1, capacity, 1_000_000))?;
-    figure(3, in_span(0, tolerance, 30_000_000))
+    figure(1, (8_000..=12_500).contains(&loss_factor))?;
+    figure(2, (1..=1_000_000).contains(&capacity))?;
+    figure(3, tolerance <= 30_000_000)
 }
 
 // Registers a facility, and answers its number.
@@ -37,25 +37,23 @@ pub fn register(
     has_room(register)?;
     known_account(account)?;
     facility_in_span(loss_factor, capacity, tolerance)?;
-    let Some(number) = register.add(Facility {
+    let facility = Facility {
         account,
         loss_factor,
         capacity,
         tolerance,
-    }) else {
-        unreachable()
     };
-    Ok(number)
+    Ok(register.add(facility).unwrap())
 }
 
 // The day's prices: low, then high, which low may not pass.
 fn prices_in_span(prices: Prices) -> Result<(), Refusal>
     ensures { result ≡ figures 1 (price_figures prices) }
 {
-    figure(1, in_signed_span(-100_000, prices.low, 100_000))?;
+    figure(1, (-100_000..=100_000).contains(&prices.low))?;
     figure(
         2,
-        in_signed_span(-100_000, prices.high, 100_000) && prices.low <= prices.high,
+        (-100_000..=100_000).contains(&prices.high) && prices.low <= prices.high,
     )
 }
 
@@ -65,8 +63,7 @@ pub fn open(register: &mut Register, prices: Prices) -> Result<(), Refusal>
 {
     before_open(register)?;
     prices_in_span(prices)?;
-    if !register.open(prices) {
-        unreachable()
-    }
+    let opened = register.open(prices);
+    prove!(opened);
     Ok(())
 }

@@ -12,10 +12,7 @@ use sheets::sheet::Sheet;
 
 // Whether a call was refused with that number and place.
 fn is_refused<T: Drop>(answer: Result<T, Refusal>, number: u32, place: usize) -> bool {
-    match answer {
-        Ok(_) => false,
-        Err(refusal) => refusal.number() == number && refusal.place() == place,
-    }
+    answer.is_err_and(|refusal| refusal.number() == number && refusal.place() == place)
 }
 
 // Prices from -50,000 to 50,000.
@@ -60,10 +57,7 @@ fn offering(kw: u32) -> Row {
 // Whether the row is a sheet that has a state.
 fn has_state(row: Row) -> bool {
     let register = open_day();
-    match Sheet::checked(&register, row) {
-        Some(_) => true,
-        None => false,
-    }
+    Sheet::checked(&register, row).is_some()
 }
 
 // A settled row: a price, a reading of each station, the start of the one that offers, and a load.

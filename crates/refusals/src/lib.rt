@@ -2,6 +2,7 @@
 #![tactic(auto)]
 
 ghost use Rattle.std.specs.Prelude.{◌≡◌};
+ghost use Rattle.refusals.specs.declared.Refusal.TheVariants.{Posting};
 ghost use Rattle.refusals.specs.Table.{refusal_number, refusal_place, refusal_reason};
 
 use ledger::reason::Reason;
@@ -35,8 +36,17 @@ pub enum Refusal {
     Posting(RowRefusal),
 }
 
+impl From<RowRefusal> for Refusal {
+    ghost from_gives = { λ refused refusal. refusal ≡ Posting refused };
+
+    fn from(refused: RowRefusal) -> Refusal {
+        Refusal::Posting(refused)
+    }
+}
+
 impl Refusal {
     // The number that the table gives the case.
+    // Kept: most cases carry their place, and a case that carries something has no cast to a number.
     pub fn number(self) -> u32
         ensures { result ≡ refusal_number self }
     {

@@ -3,7 +3,7 @@ use Rattle.std.proofs.Common.{◌≡◌, ℕ, ◌+◌, ◌-◌, ◌<◌, ◌≤�
 use Rattle.std.specs.List.{AllByRecursion as All}
 use Rattle.std.proofs.lemmas.List.{append-nil, append_assoc, length-append, at_drop_more, take_at, reverse-append, length-replicate}
 use Rattle.std.proofs.lemmas.List.Sums.{length-filter, count_by-le-length}
-use Rattle.std.proofs.lemmas.List.Elements.{filter_more}
+use Rattle.std.proofs.lemmas.List.Elements.{filter-append}
 use Rattle.schedule.specs.Blocks as blocks
 use Rattle.schedule.specs.Blocks.{takes, qualified, cost, costs, energies, beside, stored, took, divided, no_taken}
 use Rattle.schedule.specs.declared.block.Block.{Block}
@@ -58,9 +58,6 @@ module _ (x : ℕ) (bs : List Block) (t : Blocks) (b : Block) (test : Bool) (now
   at_b : test ≡ true → Dividing x bs t (b ∷ later)
   at_b e = subst (Dividing x bs t) (met ∙ ap (λ q. cond q (b ∷ later) later) e) came
 
-  pub turn_room : test ≡ true → t.count < 8
-  turn_room e = let d = at_b e in let r = d.room in omega (arith, ap (λ s. s.count) d.held)
-
   pub turn_takes : test ≡ true → (u : Blocks) → u ≡ took t b → Dividing x bs u later
   turn_takes e u k = dividing_more x bs t u b later (at_b e) k
 
@@ -75,18 +72,15 @@ pub kept_first : (p : Block → Bool) (bs : List Block) (i : ℕ) (d : Block) �
     → filter p (drop i bs) ≡ cond (p (get_or bs i d)) (get_or bs i d ∷ filter p (drop (i + 1) bs)) (filter p (drop (i + 1) bs))
 kept_first p bs i d h = at_drop_more (filter p) bs i d h
 
-one_last : (q : Bool) (b : Block) (bs : List Block) → reverse (cond q (b ∷ []) []) ++ bs ≡ cond q (b ∷ bs) bs
-one_last true b bs = refl
-one_last false b bs = refl
+one_first : (q : Bool) (b : Block) (bs : List Block) → reverse bs ++ cond q (b ∷ []) [] ≡ reverse (cond q (b ∷ bs) bs)
+one_first true b bs = sym (reverse-append (b ∷ []) bs)
+one_first false b bs = append-nil (reverse bs)
 
--- the block before i, first of those that are left from behind
-pub kept_last : (p : Block → Bool) (bs : List Block) (i : ℕ) (d : Block) → 0 < i → i ≤ length bs
-    → reverse (filter p (take i bs)) ≡ cond (p (get_or bs (i - 1) d)) (get_or bs (i - 1) d ∷ reverse (filter p (take (i - 1) bs))) (reverse (filter p (take (i - 1) bs)))
-kept_last p bs i d l h =
-    let e : i ≡ i - 1 + 1 = omega arith in
-    let b = get_or bs (i - 1) d in
-    ap (λ n. reverse (filter p (take n bs))) e ∙ ap reverse (filter_more p bs (i - 1) d (omega arith))
-    ∙ reverse-append (filter p (take (i - 1) bs)) (cond (p b) (b ∷ []) []) ∙ one_last (p b) b (reverse (filter p (take (i - 1) bs)))
+-- what a test keeps of blocks that are turned round
+pub filter-reverse : (p : Block → Bool) (bs : List Block) → filter p (reverse bs) ≡ reverse (filter p bs)
+filter-reverse p [] = refl
+filter-reverse p (b ∷ bs) =
+    ap (filter p) (reverse-append (b ∷ []) bs) ∙ filter-append p (reverse bs) (b ∷ []) ∙ ap (λ l. l ++ cond (p b) (b ∷ []) []) (filter-reverse p bs) ∙ one_first (p b) b (filter p bs)
 
 -- ---- what is stored
 pub listed_stored : (ts : List Taken) (x : ℕ) → take (stored ts x).count (stored ts x).taken ≡ ts

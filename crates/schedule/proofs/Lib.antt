@@ -1,6 +1,5 @@
 pub mod FiguresHold
 pub mod Casts
-pub mod Sums
 pub mod Rising
 pub mod Greedy
 pub mod Nearest

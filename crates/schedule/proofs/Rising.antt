@@ -78,7 +78,7 @@ adjusted_span x factor h k =
     omega (arith, ints)
 
 -- the ramp stays between its ends
-level_bound : (s up down k m B : ℕ) → s ≤ B → k ≤ B → level s up down k m ≤ B
+pub level_bound : (s up down k m B : ℕ) → s ≤ B → k ≤ B → level s up down k m ≤ B
 level_bound s up down k m B p q = grind (arith, nat_tests)
 
 sum_to_bound : (f : ℕ → ℕ) (B : ℕ) → ((m : ℕ) → f m ≤ B) → (n : ℕ) → sum_to f n ≤ n * B

@@ -1,5 +1,5 @@
 -- Blocks and what they take, over any energy function E of the target.
-use Rattle.std.specs.Prelude.{ℕ, ◌+◌, ◌-◌, ◌*◌, ◌≤◌, min, Bool, cond, List, [], ◌∷◌, ◌++◌, reverse, length, drop, replicate, ℤ, pos, ◌-ℤ◌, filter, int_lt, slice_set, unsigned_abs}
+use Rattle.std.specs.Prelude.{◌≡◌, ℕ, ◌+◌, ◌-◌, ◌*◌, ◌≤◌, min, Bool, cond, List, [], ◌∷◌, ◌++◌, reverse, length, drop, replicate, ℤ, pos, ◌-ℤ◌, filter, int_lt, slice_set, unsigned_abs}
 use Rattle.offers.specs.declared.pair.Pair.{Pair}
 use Rattle.schedule.specs.Rounding.{adjusted}
 use Rattle.schedule.specs.declared.block.Block.{Block}
@@ -10,6 +10,10 @@ use Rattle.schedule.specs.declared.block.Blocks.{Blocks}
 abbrev pub kw_where : (ℤ → Bool) → ℕ → List Pair → ℕ
 kw_where test factor [] = 0
 kw_where test factor (p ∷ ps) = cond (test (adjusted p.price factor)) p.kw 0 + kw_where test factor ps
+
+-- each answer to a price is that of the test
+abbrev pub Tests : (ℤ → Bool → Type 0) → (ℤ → Bool) → Type 0
+Tests answers test = (a : ℤ) (b : Bool) → answers a b → b ≡ test a
 
 -- the block of a pair above t kW of cheaper ones: its limit is the energy through it less that of the cheaper ones
 abbrev pub block_of : (ℕ → ℕ) → ℕ → ℕ → Pair → Block

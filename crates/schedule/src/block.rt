@@ -1,10 +1,11 @@
 // The pairs of a curve as blocks, and energy divided over them.
-ghost use Rattle.std.specs.Prelude.{◌≡◌, ◌-◌, ◌*◌, ◌<◌, ◌≤◌, [], ◌++◌, reverse, length, take, drop, filter, int_lt};
+ghost use Rattle.std.specs.Prelude.{◌≡◌, ◌-◌, ◌*◌, ◌<◌, ◌≤◌, [], ◌++◌, length, take, drop, filter, Bool, ℤ};
 ghost use Rattle.std.specs.List.{AllByRecursion};
 ghost use Rattle.offers.specs.Curves as curves;
 ghost use Rattle.schedule.specs.Rounding as rounding;
 ghost use Rattle.schedule.specs.Ramps as ramps;
 ghost use Rattle.schedule.specs.Blocks as blocking;
+ghost use Rattle.schedule.specs.Blocks.{Tests};
 
 use crate::ramp::Ramp;
 use crate::round::adjusted_price;
@@ -25,6 +26,7 @@ pub struct Taken {
     pub energy: u64,
 }
 
+// Kept: plain data that is copied and needs no heap; a vector of fixed size is not `Copy`.
 // The first `count` are the blocks in the order in which they take; the rest of the energy is non-qualifying.
 #[derive(Clone, Copy)]
 pub struct Blocks {
@@ -40,20 +42,6 @@ const NONE: Taken = Taken {
     energy: 0,
 };
 
-impl Block {
-    fn is_above(self, price: BalancingPrice) -> bool
-        ensures { result ≡ int_lt price.cents self.price }
-    {
-        price.get() < self.price
-    }
-
-    fn is_below(self, price: BalancingPrice) -> bool
-        ensures { result ≡ int_lt self.price price.cents }
-    {
-        self.price < price.get()
-    }
-}
-
 // The block of a pair, between the energy of the cheaper pairs and the energy through it.
 fn block_between(p: Pair, factor: LossFactor, below: u64, through: u64) -> Block
     requires { below ≤ through }
@@ -66,6 +54,7 @@ fn block_between(p: Pair, factor: LossFactor, below: u64, through: u64) -> Block
     }
 }
 
+// Kept: tried over `slots.iter_mut().zip(curve)`; what the slots hold after the loop stayed open (`returns`).
 // Lays the blocks of all pairs, in the curve's order. Each takes over the energy of the cheaper ones from the one before.
 pub(crate) fn lay_blocks(ramp: Ramp, factor: LossFactor, curve: &[Pair], slots: &mut [Block])
     requires room { length curve.now ≤ length slots.old }
@@ -74,11 +63,10 @@ pub(crate) fn lay_blocks(ramp: Ramp, factor: LossFactor, curve: &[Pair], slots: 
 {
     let mut cheaper = 0;
     let mut below = ramp.energy(0);
-    for i in 0..curve.len() {
-        let p = curve[i];
+    for (i, p) in curve.iter().enumerate() {
         cheaper += p.kw;
         let through = ramp.energy(cheaper);
-        slots[i] = block_between(p, factor, below, through);
+        slots[i] = block_between(*p, factor, below, through);
         below = through;
     }
 }
@@ -102,6 +90,7 @@ pub(crate) fn cost_of_all(taken: &[Taken], factor: LossFactor, price: BalancingP
     ensures value { result ≡ blocking.costs factor.value price.cents taken.now }
     ensures bound { result ≤ 93750000000000000 }
 {
+    // Kept: what `cost` requires holds at each place of the list; a chain wants one answer for that and one for its sum's bound, and is no shorter.
     let mut sum = 0;
     for t in taken {
         let cost = t.cost(factor, price);
@@ -134,40 +123,27 @@ impl Blocks {
         self
     }
 
+    // Kept: `Curve::listed` bounds its count in the same way, but over its own slots; what they share is one line.
     // The blocks in the order in which they take, as many as `count` says and the memory has.
     pub fn listed(&self) -> &[Taken]
         ensures { result.now ≡ take self.now.count self.now.taken }
     {
         let n = self.count.min(8);
-        &self.taken[0..n]
+        &self.taken[..n]
     }
 }
 
-// Divides upward energy over the blocks above the price, in the curve's order.
-pub(crate) fn divide_above(blocks: &[Block], price: BalancingPrice, amount: u64) -> Blocks
-    requires { length blocks.now ≤ 8 }
-    ensures { result ≡ blocking.divided amount (filter (λ b. int_lt price.cents b.price) blocks.now) }
+// Divides energy over the blocks whose price counts, in the order in which they stand.
+pub(crate) fn divide<F: Fn(i64) -> bool>(blocks: &[Block], amount: u64, counts: F) -> Blocks
+    requires few { length blocks.now ≤ 8 }
+    requires callable { F.IsAlwaysCallable counts }
+    ensures { (test : ℤ → Bool) → Tests (F.post counts) test → result ≡ blocking.divided amount (filter (λ b. test b.price) blocks.now) }
 {
+    // Kept: `take` requires room, which the number of turns shows; std's lemmas show a bound in a `fold` only where its value is a number.
     let mut t = Blocks::untaken(amount);
-    for i in 0..blocks.len() {
-        let b = blocks[i];
-        if b.is_above(price) {
-            t = t.take(b);
-        }
-    }
-    t
-}
-
-// Divides downward energy over the blocks below the price, in reverse.
-pub(crate) fn divide_below(blocks: &[Block], price: BalancingPrice, amount: u64) -> Blocks
-    requires { length blocks.now ≤ 8 }
-    ensures { result ≡ blocking.divided amount (reverse (filter (λ b. int_lt b.price price.cents) blocks.now)) }
-{
-    let mut t = Blocks::untaken(amount);
-    for i in (0..blocks.len()).rev() {
-        let nearest = blocks[i];
-        if nearest.is_below(price) {
-            t = t.take(nearest);
+    for b in blocks {
+        if counts(b.price) {
+            t = t.take(*b);
         }
     }
     t

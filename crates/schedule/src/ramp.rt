@@ -24,14 +24,12 @@ impl Ramp {
         }
     }
 
-    // The energy of half an hour, in kWmin.
+    // The energy of half an hour, in kWmin: the sum of the levels of minutes 1 to 30.
     pub fn energy(self, target: u32) -> u64
         ensures { result ≡ ramps.energy self.start self.up self.down target }
     {
-        let mut sum = 0;
-        for minute in 1..=30 {
-            sum += self.level(target, minute) as u64;
-        }
-        sum
+        (1..31)
+            .map(|minute| u64::from(self.level(target, minute)))
+            .sum()
     }
 }

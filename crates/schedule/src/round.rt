@@ -20,6 +20,7 @@ pub fn adjusted_price(price: i32, factor: LossFactor) -> i64
     rounded(10_000 * price as i64, factor.get())
 }
 
+// Kept: two functions, since neither number type holds the other; one over `i128` would ask casts of each caller.
 // kWmin × ten-thousandths × cents per MWh in cents, rounded.
 pub fn cents_of(part: u64) -> u64
     ensures { result ≡ rounding.rounded_natural part rounding.M }

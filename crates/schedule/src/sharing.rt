@@ -1,18 +1,14 @@
 // The levy: a total shared out over the loads of eleven accounts.
-ghost use Rattle.std.specs.Prelude.{◌≡◌, ◌*◌, ◌/◌, ◌^◌, ◌<◌, ◌≤◌, length};
+ghost use Rattle.std.specs.Prelude.{sum, ◌≡◌, ◌*◌, ◌/◌, ◌^◌, ◌<◌, ◌≤◌, length};
 ghost use Rattle.schedule.specs.Levies as levies;
 
-// The loads of accounts 1 to `account`.
-fn loads_to(loads: &[u32], account: usize) -> u64
-    requires { (account ≤ length loads.now) × (account ≤ 11) }
-    ensures value { result ≡ levies.loads_to loads.now account }
+// The loads of at most eleven accounts together.
+fn sum_of(loads: &[u32]) -> u64
+    requires { length loads.now ≤ 11 }
+    ensures value { result ≡ sum loads.now }
     ensures bound { result ≤ 11 * 2 ^ 32 }
 {
-    let mut sum = 0;
-    for i in 0..account {
-        sum += loads[i] as u64;
-    }
-    sum
+    loads.iter().map(|kw| u64::from(*kw)).sum()
 }
 
 // floor(total × part / whole).
@@ -28,14 +24,15 @@ fn share(total: u64, part: u64, whole: u64) -> u64
 pub fn levy(total: u64, loads: &[u32; 11], account: u32) -> Option<u64>
     ensures { result ≡ levies.levy_of total loads.now account }
 {
-    if account < 1 || account > 11 {
+    if !(1..=11).contains(&account) {
         return None;
     }
-    let whole = loads_to(loads, 11);
+    let number = account as usize;
+    let whole = sum_of(loads);
     if whole == 0 {
         return None;
     }
-    let through = share(total, loads_to(loads, account as usize), whole);
-    let before = share(total, loads_to(loads, account as usize - 1), whole);
+    let through = share(total, sum_of(&loads[..number]), whole);
+    let before = share(total, sum_of(&loads[..number - 1]), whole);
     Some(through - before)
 }

@@ -1,7 +1,12 @@
 // Figures that keep their spans.
-ghost use Rattle.std.specs.Prelude.{◌≡◌, ◌≤◌, true, false, MatchOption, unsigned_abs};
+ghost use Rattle.std.specs.Prelude.{◌≡◌, ◌≤◌, true, false, MatchResult, unsigned_abs};
 ghost use Rattle.schedule.specs.Spans.{factor_fits, balancing_fits};
 
+// The figure is outside its span.
+#[derive(Clone, Copy, PartialEq, Eq, Debug)]
+pub struct OutOfSpan;
+
+// Kept: two spans over two number types; in one generic type the bounds would be const parameters of a type parameter, which Rust has not.
 // A loss factor in ten-thousandths, 8,000 to 12,500.
 #[derive(Clone, Copy)]
 pub struct LossFactor {
@@ -10,17 +15,21 @@ pub struct LossFactor {
     ghost high: { value ≤ 12500 },
 }
 
-impl LossFactor {
-    // Nothing outside the span.
-    pub fn new(value: u32) -> Option<LossFactor>
-        ensures { MatchOption result (factor_fits value ≡ false) (λ f. (factor_fits value ≡ true) × (f.value ≡ value)) }
-    {
-        if value < 8_000 || value > 12_500 {
-            return None;
-        }
-        Some(LossFactor { value })
-    }
+impl TryFrom<u32> for LossFactor {
+    type Error = OutOfSpan;
 
+    ghost try_from_gives = { λ value result. MatchResult result (λ f. (factor_fits value ≡ true) × (f.value ≡ value)) (λ _. factor_fits value ≡ false) };
+
+    fn try_from(value: u32) -> Result<LossFactor, OutOfSpan> {
+        if !(8_000..=12_500).contains(&value) {
+            return Err(OutOfSpan);
+        }
+        Ok(LossFactor { value })
+    }
+}
+
+impl LossFactor {
+    // Kept: `get` here and below, as at std's `NonZero`; a `From` would stand beside it and say the same.
     pub fn get(self) -> u32
         ensures value { result ≡ self.value }
         ensures low { 8000 ≤ result }
@@ -37,17 +46,20 @@ pub struct BalancingPrice {
     ghost near: { unsigned_abs cents ≤ 125000 },
 }
 
-impl BalancingPrice {
-    // Nothing outside the span.
-    pub fn new(cents: i64) -> Option<BalancingPrice>
-        ensures { MatchOption result (balancing_fits cents ≡ false) (λ p. (balancing_fits cents ≡ true) × (p.cents ≡ cents)) }
-    {
-        if cents < -125_000 || cents > 125_000 {
-            return None;
-        }
-        Some(BalancingPrice { cents })
-    }
+impl TryFrom<i64> for BalancingPrice {
+    type Error = OutOfSpan;
 
+    ghost try_from_gives = { λ cents result. MatchResult result (λ p. (balancing_fits cents ≡ true) × (p.cents ≡ cents)) (λ _. balancing_fits cents ≡ false) };
+
+    fn try_from(cents: i64) -> Result<BalancingPrice, OutOfSpan> {
+        if !(-125_000..=125_000).contains(&cents) {
+            return Err(OutOfSpan);
+        }
+        Ok(BalancingPrice { cents })
+    }
+}
+
+impl BalancingPrice {
     pub fn get(self) -> i64
         ensures value { result ≡ self.cents }
         ensures near { unsigned_abs result ≤ 125000 }

@@ -35,12 +35,8 @@ fn worked(start: u32, reading: u32) -> Option<Station> {
 
 #[test]
 fn upward(rt: HostRuntime) -> Result<(), Fail> {
-    let Some(station) = worked(10_000, 950_000) else {
-        return Err(Fail::new("no station"));
-    };
-    let Some(price) = BalancingPrice::new(4_000) else {
-        return Err(Fail::new("no price"));
-    };
+    let station = worked(10_000, 950_000).ok_or("no station")?;
+    let price = BalancingPrice::try_from(4_000)?;
     assert!(rt; matches!(station.out_of_merit(price), OutOfMerit::Upward(370_000)));
     assert_eq!(rt; station.blocks(price).rest, 44_000);
     assert_eq!(rt; cents_of(station.part(price)), 10_867);
@@ -49,12 +45,8 @@ fn upward(rt: HostRuntime) -> Result<(), Fail> {
 
 #[test]
 fn downward(rt: HostRuntime) -> Result<(), Fail> {
-    let Some(station) = worked(10_000, 500_000) else {
-        return Err(Fail::new("no station"));
-    };
-    let Some(price) = BalancingPrice::new(7_000) else {
-        return Err(Fail::new("no price"));
-    };
+    let station = worked(10_000, 500_000).ok_or("no station")?;
+    let price = BalancingPrice::try_from(7_000)?;
     assert!(rt; matches!(station.out_of_merit(price), OutOfMerit::Downward(406_000)));
     assert_eq!(rt; station.blocks(price).rest, 0);
     assert_eq!(rt; cents_of(station.part(price)), 10_500);
@@ -63,9 +55,11 @@ fn downward(rt: HostRuntime) -> Result<(), Fail> {
 
 #[test]
 fn edges(rt: HostRuntime) {
-    assert!(rt; LossFactor::new(7_999).is_none() && LossFactor::new(8_000).is_some());
-    assert!(rt; LossFactor::new(12_500).is_some() && LossFactor::new(12_501).is_none());
-    assert!(rt; BalancingPrice::new(-125_000).is_some() && BalancingPrice::new(-125_001).is_none());
+    assert!(rt; LossFactor::try_from(7_999).is_err() && LossFactor::try_from(8_000).is_ok());
+    assert!(rt; LossFactor::try_from(12_500).is_ok() && LossFactor::try_from(12_501).is_err());
+    assert!(rt;
+        BalancingPrice::try_from(-125_000).is_ok() && BalancingPrice::try_from(-125_001).is_err()
+    );
     assert!(rt; worked(1_000_000, 30_000_000).is_some() && worked(1_000_001, 0).is_none());
 }
 

@@ -1,5 +1,5 @@
 // The lines of a day file, answered one by one.
-use crate::day::{Day, Said};
+use crate::file::{Day, Said};
 use answer_text::{answer_line, balance_line, not_a_call, sum_line};
 use ledger::accounts::Accounts;
 use offers::pair::Pair;
@@ -8,28 +8,14 @@ use std::io::Write;
 
 // The number of the line that the last byte stands on, or that would come next.
 pub fn number_of_lines(text: &[u8]) -> usize {
-    let mut n = 1usize;
-    for b in text {
-        if *b == b'\n' {
-            n = n.saturating_add(1);
-        }
-    }
-    n
+    let ended = text.iter().filter(|b| **b == b'\n').count();
+    ended.saturating_add(1)
 }
 
 // The length of the longest line.
 pub fn longest(text: &[u8]) -> usize {
-    let mut longest = 0usize;
-    let mut length = 0usize;
-    for b in text {
-        length = if *b == b'\n' {
-            0
-        } else {
-            length.saturating_add(1)
-        };
-        longest = longest.max(length);
-    }
-    longest
+    let lines = text.split(|b| *b == b'\n');
+    lines.map(|line| line.len()).max().unwrap_or(0)
 }
 
 fn answer<W: Write>(
@@ -53,21 +39,16 @@ pub fn answer_lines<W: Write>(
     text: &[u8],
     memory: &mut [Pair],
 ) -> io::Result<()> {
-    let mut from = 0;
-    let mut number: u64 = 1;
-    for (i, b) in text.iter().enumerate() {
-        if *b == b'\n' {
-            answer(out, day, number, &text[from..i], memory)?;
-            from = i + 1;
-            number += 1;
-        }
+    for (number, line) in (1..).zip(text.split(|b| *b == b'\n')) {
+        answer(out, day, number, line, memory)?;
     }
-    answer(out, day, number, &text[from..], memory)
+    Ok(())
 }
 
 // The balances of all accounts, and their sum, which 64 accounts cannot make too large.
 pub fn write_balances<W: Write, L: Accounts>(out: &mut W, ledger: &L) -> io::Result<()> {
     let mut sum = 0i64;
+    // Kept: a ledger tells its accounts by number, so there is no list of them to go over.
     for account in 0..ledger.accounts() {
         if let Some(cents) = ledger.balance(account) {
             sum = sum.saturating_add(cents);

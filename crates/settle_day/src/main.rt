@@ -2,10 +2,10 @@
 #![tactic(auto)]
 
 mod calls;
-mod day;
+mod file;
 mod lines;
 
-use crate::day::Day;
+use crate::file::Day;
 use crate::lines::{answer_lines, longest, number_of_lines, write_balances};
 use offers::pair::Pair;
 use std::io::{BufWriter, Read, Write};
@@ -13,6 +13,7 @@ use std::io::{BufWriter, Read, Write};
 // All of standard input. Where it cannot be read, the error says how far it could.
 fn read_input(rt: &HostRuntime) -> anyhow::Result<Vec<u8>> {
     let mut text = Vec::new(rt.alloc());
+    // Kept: the error says how far the text came, which a closure cannot read while the text is filled.
     if let Err(error) = rt.stdin().read_to_end(&mut text) {
         let line = number_of_lines(text.as_slice());
         return Err(anyhow::anyhow!("cannot read line {line} of the day file: {error}"));

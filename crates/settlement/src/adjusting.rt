@@ -30,12 +30,8 @@ pub fn adjust<L: Ledger>(
     let place = facility_place(register, facility)?;
     let sheet = sheet_for(register, rows[at], Event::Adjust, interval)?;
     reading_in_span(kwmin)?;
-    let Some(corrected) = sheet.with_reading(place, kwmin) else {
-        unreachable()
-    };
-    let Some(changes) = change(&corrected, &sheet) else {
-        unreachable()
-    };
+    let corrected = sheet.with_reading(place, kwmin).unwrap();
+    let changes = change(&corrected, &sheet).unwrap();
     let posts = post_amounts(ledger, &changes)?;
     rows[at] = corrected.row();
     Ok(posts)

@@ -12,8 +12,5 @@ pub fn post_amounts<L: Ledger>(ledger: &mut L, amounts: &[i64; 12]) -> Result<us
     ensures moved { MatchResult result (λ n. (postable (L.view ledger.old) amounts.now ≡ Ok tt) × ((n ≡ posts amounts.now) × Moves (L.view ledger.old) amounts.now (L.view ledger.new))) (λ f. (postable (L.view ledger.old) amounts.now ≡ Err f) × (L.view ledger.new ≡ L.view ledger.old)) }
     ensures took { L.took ledger.old (posts_of amounts.now result) ledger.new }
 {
-    match post_row(ledger, amounts) {
-        Ok(posts) => Ok(posts),
-        Err(refusal) => Err(Refusal::Posting(refusal)),
-    }
+    Ok(post_row(ledger, amounts)?)
 }

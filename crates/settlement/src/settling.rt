@@ -11,7 +11,7 @@ ghost use Rattle.pool.specs.Held.{held};
 use crate::posting::post_amounts;
 use amounts::nets::nets;
 use ledger::accounts::Ledger;
-use pool::checks::{after_open, sheet_for, sheet_place};
+use pool::checks::{after_open, sheet_for, sheet_place, unless};
 use refusals::Refusal;
 use sheets::register::Register;
 use sheets::row::{Event, Figures, Row};
@@ -20,11 +20,7 @@ use sheets::sheet::Sheet;
 fn is_complete(figures: &Figures, number: u32) -> Result<(), Refusal>
     ensures { result ≡ unless (complete figures.now) (refusal.Missing number) }
 {
-    if figures.is_complete() {
-        Ok(())
-    } else {
-        Err(Refusal::Missing(number))
-    }
+    unless(figures.is_complete(), Refusal::Missing(number))
 }
 
 // The figures of each facility, from number 1.
@@ -32,10 +28,8 @@ fn all_complete(table: &[Figures]) -> Result<(), Refusal>
     requires { length table.now ≤ 12 }
     ensures { result ≡ figures_complete 1 table.now }
 {
-    let mut number = 1;
-    for figures in table {
-        is_complete(figures, number)?;
-        number += 1;
+    for (place, figures) in table.iter().enumerate() {
+        is_complete(figures, place as u32 + 1)?;
     }
     Ok(())
 }
@@ -43,11 +37,7 @@ fn all_complete(table: &[Figures]) -> Result<(), Refusal>
 fn has_load(sheet: &Sheet, interval: u32) -> Result<(), Refusal>
     ensures { result ≡ load_there sheet.now.row.positions interval }
 {
-    if sheet.has_load() {
-        Ok(())
-    } else {
-        Err(Refusal::NoLoad(interval))
-    }
+    unless(sheet.has_load(), Refusal::NoLoad(interval))
 }
 
 // Settles a closed sheet: its nets are posted. It answers how many posts that took.
@@ -65,12 +55,8 @@ pub fn settle<L: Ledger>(
     let sheet = sheet_for(register, rows[at], Event::Settle, interval)?;
     all_complete(sheet.figures())?;
     has_load(&sheet, interval)?;
-    let Some(amounts) = nets(&sheet) else {
-        unreachable()
-    };
-    let Some(settled) = sheet.settled() else {
-        unreachable()
-    };
+    let amounts = nets(&sheet).unwrap();
+    let settled = sheet.settled().unwrap();
     let posts = post_amounts(ledger, &amounts)?;
     rows[at] = settled.row();
     Ok(posts)

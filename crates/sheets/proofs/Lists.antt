@@ -1,6 +1,8 @@
 -- Tests over lists.
-use Rattle.std.proofs.Common.{◌≡◌, ℕ, zero, suc, ◌+◌, ◌<◌, ◌≤◌, Bool, true, false, ◌&&◌, List, [], ◌∷◌, ◌++◌, length, get_or, drop, set, sym, refl, ap, ◌∙◌, arith}
-use Rattle.std.proofs.lemmas.List.{at_drop_more, at_drop_all}
+use Rattle.std.proofs.Common.{◌≡◌, ℕ, zero, suc, ◌<◌, ◌≤◌, Bool, true, false, ◌&&◌, List, [], ◌∷◌, ◌++◌, length, get_or, set, refl, ap, arith}
+use Rattle.std.specs.Bool.{MatchBool}
+use Rattle.std.specs.List.{zip, AllWithin, HoldsAt}
+use Rattle.std.proofs.lemmas.List.Recursion.{and_is}
 use Rattle.offers.specs.Tests.{all}
 use Rattle.offers.proofs.Tests.{and_first, and_second, and_both}
 use Rattle.sheets.specs.Tests.{all2}
@@ -9,19 +11,16 @@ pub all_push : {X : Type 0} (p : X → Bool) (xs : List X) (x : X) → all p xs 
 all_push p [] x h k = and_both (p x) true k refl
 all_push p (y ∷ ys) x h k = and_both (p y) _ (and_first (p y) _ h) (all_push p ys x (and_second (p y) _ h) k)
 
-pub all2_step : {X Y : Type 0} (p : X → Y → Bool) (xs : List X) (ys : List Y) (i : ℕ) (d : X) (e : Y) → i < length xs → i < length ys → all2 p (drop i xs) (drop i ys) ≡ (p (get_or xs i d) (get_or ys i e) && all2 p (drop (i + 1) xs) (drop (i + 1) ys))
-all2_step p xs ys i d e h k =
-    at_drop_more (λ zs. all2 p zs (drop i ys)) xs i d h
-    ∙ at_drop_more (λ zs. all2 p (get_or xs i d ∷ drop (i + 1) xs) zs) ys i e k
+-- where the second list is no shorter, the test of both is one test of the pairs
+pub all2_zip : {X Y : Type 0} (p : X → Y → Bool) (xs : List X) (ys : List Y) → length xs ≤ length ys → all (λ (q : X × Y). p q.0 q.1) (zip xs ys) ≡ all2 p xs ys
+all2_zip p [] ys h = refl
+all2_zip p (x ∷ xs) [] h = absurd (omega arith)
+all2_zip p (x ∷ xs) (y ∷ ys) h = ap (λ b. p x y && b) (all2_zip p xs ys (omega arith))
 
-pub all2_again : {X Y : Type 0} (p : X → Y → Bool) (xs : List X) (ys : List Y) (i : ℕ) (d : X) (e : Y) → length xs ≤ length ys → i < length xs → p (get_or xs i d) (get_or ys i e) ≡ true → all2 p (drop i xs) (drop i ys) ≡ all2 p xs ys → all2 p (drop (i + 1) xs) (drop (i + 1) ys) ≡ all2 p xs ys
-all2_again p xs ys i d e w h t q = ap (λ b. b && all2 p (drop (i + 1) xs) (drop (i + 1) ys)) (sym t) ∙ sym (all2_step p xs ys i d e h (omega arith)) ∙ q
-
-pub all2_fails : {X Y : Type 0} (p : X → Y → Bool) (xs : List X) (ys : List Y) (i : ℕ) (d : X) (e : Y) → length xs ≤ length ys → i < length xs → p (get_or xs i d) (get_or ys i e) ≡ false → all2 p (drop i xs) (drop i ys) ≡ all2 p xs ys → false ≡ all2 p xs ys
-all2_fails p xs ys i d e w h t q = ap (λ b. b && all2 p (drop (i + 1) xs) (drop (i + 1) ys)) (sym t) ∙ sym (all2_step p xs ys i d e h (omega arith)) ∙ q
-
-pub all2_ends : {X Y : Type 0} (p : X → Y → Bool) (xs : List X) (ys : List Y) (i : ℕ) → length xs ≤ i → all2 p (drop i xs) (drop i ys) ≡ all2 p xs ys → true ≡ all2 p xs ys
-all2_ends p xs ys i h q = sym (at_drop_all (λ zs. all2 p zs (drop i ys)) xs i h) ∙ q
+-- what `all` answers by its cases is the test of the list
+pub all_by_cases : {X : Type 0} (p : X → Bool) (xs : List X) (d : X) (r : Bool) → MatchBool r (AllWithin (λ x. p x ≡ true) xs 0 (length xs)) ((k : ℕ) × (k < length xs) × HoldsAt (λ x. p x ≡ false) xs k) → r ≡ all p xs
+all_by_cases p xs d true h = and_is (all p) p refl (λ _ _. refl) xs d true (λ _ i l. h i d (omega arith) l) (λ e. cc)
+all_by_cases p xs d false h = and_is (all p) p refl (λ _ _. refl) xs d false (λ e. cc) (λ _. (h.0, h.1, h.2 d))
 
 -- one element changed by value: what was sound stays so
 pub all2_set : {X Y : Type 0} (p : X → Y → Bool) (xs : List X) (ys : List Y) (i : ℕ) (d : X) (y : Y) → p (get_or xs i d) y ≡ true → all2 p xs ys ≡ true → all2 p xs (set ys i y) ≡ true

@@ -1,5 +1,6 @@
 -- When a row is a sheet that has a state.
-use Rattle.std.specs.Prelude.{ℕ, ◌+◌, Bool, true, false, cond, ◌&&◌, ◌||◌, List, [], ◌∷◌, length, take, replicate, ℤ, pos, negsuc, is_some, Some, None, Option, nat_le, nat_lt, slice_index_or, slice_set}
+use Rattle.std.specs.Prelude.{ℕ, ◌+◌, Bool, true, false, cond, ◌&&◌, List, [], ◌∷◌, length, take, replicate, ℤ, pos, negsuc, is_some, Some, None, Option, nat_le, nat_lt, slice_index_or, slice_set}
+use Rattle.std.specs.List.{list_any}
 use Rattle.offers.specs.declared.pair.Pair.{Pair}
 use Rattle.offers.specs.declared.submission.Submission.{Submission}
 use Rattle.offers.specs.Tests.{all}
@@ -70,8 +71,7 @@ abbrev pub complete : Figures → Bool
 complete x = is_some x.reading && cond (is_some x.submission) (is_some x.start) true
 
 abbrev pub has_load : List Position → Bool
-has_load [] = false
-has_load (p ∷ ps) = nat_lt 0 p.load || has_load ps
+has_load = list_any (λ p. nat_lt 0 p.load)
 
 -- what the state of a sheet asks: closed a price, settled also complete facilities and a load
 abbrev pub stage : State → Bool → Bool → Bool

@@ -1,7 +1,7 @@
 // What is registered, and what the day is opened with.
 
 // A power station of the pool.
-#[derive(Clone, Copy)]
+#[derive(Clone, Copy, Default)]
 pub struct Facility {
     pub account: u32,
     pub loss_factor: u32,

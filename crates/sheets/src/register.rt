@@ -7,6 +7,7 @@ ghost use Rattle.sheets.specs.Spans.{facility_sound, prices_sound};
 use crate::facility::{Facility, Prices};
 
 // Every register that exists keeps the spans.
+// Kept: a plain Copy value with no heap, so the facilities are an array and their number.
 #[derive(Clone, Copy)]
 pub struct Register {
     facilities: [Facility; 12],

@@ -14,7 +14,7 @@ pub enum State {
 }
 
 // What a sheet holds for one facility.
-#[derive(Clone, Copy)]
+#[derive(Clone, Copy, Default)]
 pub struct Figures {
     pub submission: Option<Submission>,
     pub start: Option<u32>,
@@ -22,12 +22,13 @@ pub struct Figures {
 }
 
 // What a sheet holds for one account: energy sold ahead, and load.
-#[derive(Clone, Copy)]
+#[derive(Clone, Copy, Default)]
 pub struct Position {
     pub contract: i32,
     pub load: u32,
 }
 
+// Kept: a row is plain data that the caller lends, so its figures stand by the numbers of the register's facilities, beside no list of their own.
 // Figures by facility number from 1, positions by account from 1.
 #[derive(Clone, Copy)]
 pub struct Row {
@@ -63,20 +64,11 @@ impl Row {
         ensures value { result ≡ blank_row }
         ensures sound { (fs : List Facility) (z : Prices) → length fs ≤ 12 → sheet_sound fs (Some z) result ≡ true }
     {
-        let none = Figures {
-            submission: None,
-            start: None,
-            reading: None,
-        };
-        let zero = Position {
-            contract: 0,
-            load: 0,
-        };
         Row {
             state: State::Open,
-            figures: [none; 12],
+            figures: [Figures::default(); 12],
             demand: None,
-            positions: [zero; 11],
+            positions: [Position::default(); 11],
         }
     }
 }

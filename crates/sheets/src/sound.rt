@@ -6,95 +6,71 @@ ghost use Rattle.sheets.specs.Sheets.{position_fits, pair_fits, submission_sound
 
 use crate::facility::{Facility, Prices};
 use crate::row::{Figures, Position, Row, State};
-use crate::spans::{in_signed_span, in_span};
 use offers::pair::Pair;
 use offers::submission::Submission;
 
 pub fn position_fits(p: Position) -> bool
     ensures { result ≡ position_fits p }
 {
-    in_signed_span(-60_000_000, p.contract, 60_000_000) && p.load <= 60_000_000
+    (-60_000_000..=60_000_000).contains(&p.contract) && p.load <= 60_000_000
 }
 
 pub fn positions_fit(positions: &[Position]) -> bool
     ensures { result ≡ all position_fits positions.now }
 {
-    for p in positions {
-        if !position_fits(*p) {
-            return false;
-        }
-    }
-    true
+    positions.iter().all(|p| position_fits(*p))
 }
 
 fn pair_fits(prices: Prices, p: Pair) -> bool
     ensures { result ≡ pair_fits prices p }
 {
-    in_signed_span(prices.low, p.price, prices.high) && p.kw <= 1_000_000
+    (prices.low..=prices.high).contains(&p.price) && p.kw <= 1_000_000
 }
 
 fn pairs_fit(prices: Prices, pairs: &[Pair]) -> bool
     ensures { result ≡ all (pair_fits prices) pairs.now }
 {
-    for p in pairs {
-        if !pair_fits(prices, *p) {
-            return false;
-        }
-    }
-    true
+    pairs.iter().all(|p| pair_fits(prices, *p))
 }
 
 fn ramp_fits(x: u32) -> bool
     ensures { result ≡ ramp_fits x }
 {
-    in_span(1, x, 1_000_000)
+    (1..=1_000_000).contains(&x)
 }
 
 pub fn submission_sound(prices: Prices, facility: Facility, s: &Submission) -> bool
     ensures { result ≡ submission_sound prices facility s.now }
 {
-    let up = ramp_fits(s.ramp_up);
-    let down = ramp_fits(s.ramp_down);
-    let form = s.curve.is_in_form();
-    let pairs = pairs_fit(prices, s.curve.listed());
-    let capacity = s.curve.kw() <= u64::from(facility.capacity);
-    up && down && form && pairs && capacity
+    ramp_fits(s.ramp_up)
+        && ramp_fits(s.ramp_down)
+        && s.curve.is_in_form()
+        && pairs_fit(prices, s.curve.listed())
+        && s.curve.kw() <= u64::from(facility.capacity)
 }
 
 pub fn start_fits(start: Option<u32>) -> bool
     ensures { result ≡ if_some start_fits start }
 {
-    match start {
-        Some(x) => x <= 1_000_000,
-        None => true,
-    }
+    start.is_none_or(|kw| kw <= 1_000_000)
 }
 
 pub fn reading_fits(reading: Option<u32>) -> bool
     ensures { result ≡ if_some reading_fits reading }
 {
-    match reading {
-        Some(x) => x <= 30_000_000,
-        None => true,
-    }
+    reading.is_none_or(|kwmin| kwmin <= 30_000_000)
 }
 
 pub fn demand_fits(demand: Option<u32>) -> bool
     ensures { result ≡ if_some demand_fits demand }
 {
-    match demand {
-        Some(x) => in_span(1, x, 12_000_000),
-        None => true,
-    }
+    demand.is_none_or(|kw| (1..=12_000_000).contains(&kw))
 }
 
 fn offer_sound(prices: Prices, facility: Facility, submission: Option<Submission>) -> bool
     ensures { result ≡ if_some (submission_sound prices facility) submission }
 {
-    match submission {
-        Some(s) => submission_sound(prices, facility, &s),
-        None => true,
-    }
+    submission.is_none_or(|s| submission_sound(prices, facility, &s))
 }
 
 fn figures_sound(prices: Prices, facility: Facility, figures: Figures) -> bool
@@ -110,56 +86,40 @@ pub fn table_sound(prices: Prices, facilities: &[Facility], table: &[Figures]) -
     requires { length facilities.now ≤ length table.now }
     ensures { result ≡ all2 (figures_sound prices) facilities.now table.now }
 {
-    for i in 0..facilities.len() {
-        if !figures_sound(prices, facilities[i], table[i]) {
-            return false;
-        }
-    }
-    true
+    facilities.iter().zip(table).all(|(facility, figures)| figures_sound(
+        prices, *facility, *figures,
+    ))
 }
 
 fn offer_of(submission: Option<Submission>) -> u64
     ensures value { result ≡ offer submission }
     ensures bound { result ≤ 34359738360 }
 {
-    match submission {
-        Some(s) => s.curve.kw(),
-        None => 0,
-    }
+    submission.map_or(0, |s| s.curve.kw())
 }
 
 pub fn all_complete(table: &[Figures]) -> bool
     ensures { result ≡ all complete table.now }
 {
-    for x in table {
-        if !x.is_complete() {
-            return false;
-        }
-    }
-    true
+    table.iter().all(|figures| figures.is_complete())
 }
 
 pub fn any_load(positions: &[Position]) -> bool
     ensures { result ≡ has_load positions.now }
 {
-    for p in positions {
-        if p.load > 0 {
-            return true;
-        }
-    }
-    false
+    positions.iter().any(|p| p.load > 0)
 }
 
 // The kW that all facilities of a table offer.
+// Kept: at most twelve facilities are known, which a table's length tells; a type for a short slice would state the bound at as many places.
 pub fn offers_of(table: &[Figures]) -> u64
     requires { length table.now ≤ 12 }
     ensures { result ≡ offers table.now }
 {
-    let mut sum: u64 = 0;
-    for x in table {
-        sum += offer_of(x.submission);
-    }
-    sum
+    table
+        .iter()
+        .map(|figures| offer_of(figures.submission))
+        .sum()
 }
 
 // Whether there is a demand, and the offers reach it.
@@ -167,10 +127,7 @@ pub fn demand_reached(table: &[Figures], demand: Option<u32>) -> bool
     requires { length table.now ≤ 12 }
     ensures { result ≡ reaches table.now demand }
 {
-    match demand {
-        Some(d) => u64::from(d) <= offers_of(table),
-        None => false,
-    }
+    demand.is_some_and(|kw| u64::from(kw) <= offers_of(table))
 }
 
 // Whether a row has what its state asks, of its first n facilities.
@@ -178,7 +135,7 @@ pub fn stage_sound(n: usize, row: &Row) -> bool
     requires { n ≤ 12 }
     ensures { result ≡ stage_sound n row.now }
 {
-    let table = &row.figures[0..n];
+    let table = &row.figures[..n];
     match row.state {
         State::Open => true,
         State::Closed => demand_reached(table, row.demand),

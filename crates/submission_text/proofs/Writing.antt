@@ -9,7 +9,7 @@ use Rattle.text.specs.Drafts.{kept}
 use Rattle.text.specs.Lines.{line_text}
 use Rattle.text.specs.Refusals.{refusal_number, cause}
 use Rattle.text.specs.declared.refusal.Refusal.{Refusal}
-use Rattle.text.proofs.Drafting.{kept_more, kept_all}
+use Rattle.text.proofs.Drafting.{kept_twice, kept_more, kept_all}
 use Rattle.text.proofs.Lined.{length_line_text}
 use Rattle.offers.specs.declared.pair.Pair.{Pair}
 use Rattle.submission_text.specs.declared.file.Head.{Head}
@@ -82,8 +82,9 @@ pairs_text_push (q ∷ ps) p = ap (λ l. pair_text q ++ l) (pairs_text_push ps p
 abbrev pub Laid : List ℕ → List ℕ → List Pair → ℕ → Type 0
 Laid old new ps i = (new ≡ kept (old ++ pairs_text (take i ps))) × (length (pairs_text (take i ps)) ≤ 28 * i)
 
-pub laid_none : (d : List ℕ) (ps : List Pair) → length d ≤ 512 → Laid d d ps 0
-laid_none d ps h = (sym (ap kept (append-nil d) ∙ kept_all d h), omega arith)
+pub laid_none : (d text : List ℕ) (ps : List Pair) → d ≡ kept text → Laid d d ps 0
+laid_none d text ps e =
+    (e ∙ ap kept (sym (append-nil text)) ∙ sym (kept_twice text []) ∙ ap (λ x. kept (x ++ [])) (sym e), omega arith)
 
 pub laid_more : (old mid new : List ℕ) (ps : List Pair) (i : ℕ) (p q : Pair) → Laid old mid ps i → i < length ps → get_or ps i q ≡ p
     → new ≡ kept (mid ++ pair_text p) → length (pair_text p) ≤ 28 → Laid old new ps (i + 1)

@@ -1,6 +1,5 @@
 // What the intake answers to a text.
 ghost use Rattle.std.specs.Prelude.{◌≡◌};
-ghost use Rattle.text.specs.Drafts.{held};
 ghost use Rattle.submission_text.specs.Write.{refusal_text, answer_text};
 ghost use Rattle.submission_text.specs.Claims.{Again, Settled, Alike};
 
@@ -11,7 +10,7 @@ use text::refusal::Refusal;
 
 // A refusal in two lines.
 pub fn refused(refusal: Refusal) -> Draft
-    ensures { held result ≡ refusal_text refusal }
+    ensures { result ≡ refusal_text refusal }
 {
     let mut draft = Draft::new();
     draft.push_line(b"refused", refusal.number() as u64);
@@ -19,21 +18,15 @@ pub fn refused(refusal: Refusal) -> Draft
     draft
 }
 
-fn drafted(text: &[u8]) -> Draft
-    ensures { held result ≡ answer_text text.now }
+// What the intake prints for a text: its written form, or the refusal.
+pub fn answer_to(text: &[u8]) -> Draft
+    ensures value { result ≡ answer_text text.now }
+    ensures again { Again }
+    ensures settled { Settled }
+    ensures alike { Alike }
 {
     match read(text) {
         Ok(file) => written(&file),
         Err(refusal) => refused(refusal),
     }
-}
-
-// What the intake prints for a text: its written form, or the refusal.
-pub fn answer_to(text: &[u8]) -> Draft
-    ensures value { held result ≡ answer_text text.now }
-    ensures again { Again }
-    ensures settled { Settled }
-    ensures alike { Alike }
-{
-    drafted(text)
 }

@@ -2,6 +2,7 @@
 use offers::submission::Submission;
 
 // The four leading figures. Ramps are in kW per minute.
+// Kept: `day_text` has the same four in its `Offer`; neither crate builds on the other, and `text` below both knows no offers.
 #[derive(Clone, Copy)]
 pub struct Head {
     pub facility: u32,

@@ -1,15 +1,17 @@
 // Reading the text of a submission, line by line.
-ghost use Rattle.std.specs.Prelude.{◌≡◌, ◌≤◌, [], length, IfOk};
+ghost use Rattle.std.specs.Prelude.{◌≡◌, ℕ, ◌+◌, ◌≤◌, List, Result, Ok, IfOk, OnOk};
+ghost use Rattle.std.specs.Fn.{FnReturnsAt};
 ghost use Rattle.std.specs.Result.{result_map_both as mapped_both};
-ghost use Rattle.offers.specs.Curves.{total, curve as curve_pairs, stored};
-ghost use Rattle.submission_text.specs.Read.{pair_of, pair_line_of, pairs_of, curved, head_of, file_of, read_of};
+ghost use Rattle.text.specs.declared.number.NumberFault.{NumberFault as Fault};
+ghost use Rattle.text.specs.Lines.{line_of, natural_line_of, placed, Reads};
+ghost use Rattle.submission_text.specs.Read.{pair_of, pairs_of, curved, head_of, file_of, read_of};
 ghost use Rattle.submission_text.specs.Claims.{ReadsLines};
 
 use crate::file::{Head, SubmissionFile};
 use offers::curve::Curve;
 use offers::pair::Pair;
 use offers::submission::Submission;
-use text::line::{LineFault, cut, natural_line, value_of};
+use text::line::{LineFault, cut, line_with};
 use text::number::{NumberFault, natural, signed};
 use text::refusal::{Refusal, on_line};
 
@@ -27,61 +29,77 @@ fn read_pair(s: &[u8], room: u32) -> Result<Pair, NumberFault>
     })
 }
 
-// A line `pair=price:kW`, and the bytes after it.
-fn pair_line(s: &[u8], room: u32) -> Result<(Pair, &[u8]), LineFault>
-    ensures within { IfOk result (λ x. x.0.kw ≤ room) }
-    ensures value { mapped_both (λ x. (x.0, x.1.now)) (λ e. e) result ≡ pair_line_of room s.now }
-{
-    let (line, rest) = cut(s, b'\n');
-    let value = value_of(line, b"pair").ok_or(LineFault::Key)?;
-    let pair = read_pair(value, room)?;
-    let rest = rest.ok_or(LineFault::Feed)?;
-    Ok((pair, rest))
+// The lines that are left to read, and the number of the first of them.
+#[derive(Clone, Copy)]
+struct Lines<'a> {
+    rest: &'a [u8],
+    number: u32,
 }
 
-// The curve of pairs that were read.
-fn curve_of(pairs: &[Pair]) -> Curve
-    requires { (length pairs.now ≤ 8) × (total pairs.now ≤ 1000000) }
-    ensures { result ≡ stored (curve_pairs pairs.now) }
-{
-    match Curve::of(pairs) {
-        Some(curve) => curve,
-        None => unreachable(),
+impl<'a> Lines<'a> {
+    // What that function reads from the next line, after that key.
+    fn next<T: Drop, F: Fn(&[u8]) -> Result<T, NumberFault>>(
+        &mut self,
+        key: &[u8],
+        read: F,
+    ) -> Result<T, Refusal>
+        requires few { self.old.number ≤ 100 }
+        requires callable { F.IsAlwaysCallable read }
+        ensures next { OnOk result (self.new.number ≡ self.old.number + 1) }
+        ensures told { IfOk result (λ x. (v : List ℕ) × FnReturnsAt F.Fn read v (Ok x)) }
+        ensures value { (reader : List ℕ → Result T Fault) → Reads (FnReturnsAt F.Fn read) reader → mapped_both (λ x. (x, self.new.rest.now)) (λ e. e) result ≡ placed self.old.number (line_of reader key.now self.old.rest.now) }
+    {
+        let (x, rest) = on_line(self.number, line_with(self.rest, key, read))?;
+        self.rest = rest;
+        self.number += 1;
+        Ok(x)
+    }
+
+    // The number on the next line, after that key.
+    fn natural(&mut self, key: &[u8], low: u64, high: u64) -> Result<u64, Refusal>
+        requires { self.old.number ≤ 100 }
+        ensures next { OnOk result (self.new.number ≡ self.old.number + 1) }
+        ensures within { IfOk result (λ n. (low ≤ n) × (n ≤ high)) }
+        ensures value { mapped_both (λ n. (n, self.new.rest.now)) (λ e. e) result ≡ placed self.old.number (natural_line_of key.now low high self.old.rest.now) }
+    {
+        self.next(key, |value| natural(value, low, high))
     }
 }
 
-// The curve of `count` pairs, and the bytes after them.
-fn read_pairs(text: &[u8], count: usize) -> Result<(Curve, &[u8]), Refusal>
-    requires { count ≤ 8 }
-    ensures { mapped_both (λ x. (x.0, x.1.now)) (λ e. e) result ≡ curved (pairs_of count text.now) }
+// The four leading figures.
+fn read_head(lines: &mut Lines) -> Result<Head, Refusal>
+    requires { lines.old.number ≡ 1 }
+    ensures next { OnOk result (lines.new.number ≡ 5) }
+    ensures value { mapped_both (λ h. (h, lines.new.rest.now)) (λ e. e) result ≡ head_of lines.old.rest.now }
 {
-    let mut pairs = [Pair { price: 0, kw: 0 }; 8];
-    let mut rest = text;
-    let mut room: u32 = 1_000_000;
-    for i in 0..count {
-        let (pair, next) = on_line(6 + i as u32, pair_line(rest, room))?;
-        pairs[i] = pair;
-        room -= pair.kw;
-        rest = next;
-    }
-    Ok((curve_of(&pairs[0..count]), rest))
-}
-
-// The four leading figures, and the bytes after them.
-fn read_head(text: &[u8]) -> Result<(Head, &[u8]), Refusal>
-    ensures { mapped_both (λ x. (x.0, x.1.now)) (λ e. e) result ≡ head_of text.now }
-{
-    let (facility, rest) = on_line(1, natural_line(text, b"facility", 1, 12))?;
-    let (interval, rest) = on_line(2, natural_line(rest, b"interval", 1, 48))?;
-    let (ramp_up, rest) = on_line(3, natural_line(rest, b"rampup", 1, 1_000_000))?;
-    let (ramp_down, rest) = on_line(4, natural_line(rest, b"rampdown", 1, 1_000_000))?;
-    let head = Head {
+    let facility = lines.natural(b"facility", 1, 12)?;
+    let interval = lines.natural(b"interval", 1, 48)?;
+    let ramp_up = lines.natural(b"rampup", 1, 1_000_000)?;
+    let ramp_down = lines.natural(b"rampdown", 1, 1_000_000)?;
+    Ok(Head {
         facility: facility as u32,
         interval: interval as u32,
         ramp_up: ramp_up as u32,
         ramp_down: ramp_down as u32,
-    };
-    Ok((head, rest))
+    })
+}
+
+// The curve of so many pairs.
+fn read_pairs(lines: &mut Lines, count: usize) -> Result<Curve, Refusal>
+    requires first { lines.old.number ≡ 6 }
+    requires few { count ≤ 8 }
+    ensures next { OnOk result (lines.new.number ≡ 6 + count) }
+    ensures value { mapped_both (λ c. (c, lines.new.rest.now)) (λ e. e) result ≡ curved (pairs_of count lines.old.rest.now) }
+{
+    let mut memory = [Pair { price: 0, kw: 0 }; 8];
+    let pairs = &mut memory[..count];
+    let mut room: u32 = 1_000_000;
+    for slot in pairs.iter_mut() {
+        let pair = lines.next(b"pair", |value| read_pair(value, room))?;
+        *slot = pair;
+        room -= pair.kw;
+    }
+    Ok(Curve::of(pairs).unwrap())
 }
 
 fn with_curve(head: Head, curve: Curve) -> SubmissionFile
@@ -99,15 +117,20 @@ fn with_curve(head: Head, curve: Curve) -> SubmissionFile
     }
 }
 
+// Kept: apart from `read`, which draws its second clause once from the value told here, and not at each of five exits.
 fn read_lines(text: &[u8]) -> Result<SubmissionFile, Refusal>
     ensures { result ≡ read_of text.now }
 {
-    let (head, rest) = read_head(text)?;
-    let (count, rest) = on_line(5, natural_line(rest, b"pairs", 0, 8))?;
-    let (curve, rest) = read_pairs(rest, count as usize)?;
-    if !rest.is_empty() {
+    let mut lines = Lines {
+        rest: text,
+        number: 1,
+    };
+    let head = read_head(&mut lines)?;
+    let count = lines.natural(b"pairs", 0, 8)?;
+    let curve = read_pairs(&mut lines, count as usize)?;
+    if !lines.rest.is_empty() {
         return Err(Refusal {
-            line: 6 + count as u32,
+            line: lines.number,
             fault: LineFault::Extra,
         });
     }

@@ -1,7 +1,7 @@
 // The written form of a submission file.
-ghost use Rattle.std.specs.Prelude.{◌≡◌, ◌*◌, ◌≤◌, ◌++◌, length};
-ghost use Rattle.text.specs.Drafts.{held, kept, placed_text, placed_length};
-ghost use Rattle.submission_text.specs.Write.{head, pair_text, pairs_text, head_text, written_form};
+ghost use Rattle.std.specs.Prelude.{◌≡◌, ◌≤◌, ◌++◌, length};
+ghost use Rattle.text.specs.Drafts.{kept, placed_text, placed_length};
+ghost use Rattle.submission_text.specs.Write.{head, pair_text, head_text, written_form};
 ghost use Rattle.submission_text.specs.Claims.{ReadsBack, OneText};
 
 use crate::file::SubmissionFile;
@@ -10,8 +10,9 @@ use text::draft::Draft;
 use text::draft::acts::place;
 use text::refusal::TextTooShort;
 
+// Kept: pieces pushed into a draft, which cannot fail; a `Display` may answer an error that `written` has no place for.
 fn push_pair(draft: &mut Draft, p: Pair)
-    ensures after { held draft.new ≡ kept (held draft.old ++ pair_text p) }
+    ensures after { draft.new ≡ kept (draft.old ++ pair_text p) }
     ensures short { length (pair_text p) ≤ 28 }
 {
     draft.push(b"pair=");
@@ -21,17 +22,8 @@ fn push_pair(draft: &mut Draft, p: Pair)
     draft.push(b"\n");
 }
 
-fn push_pairs(draft: &mut Draft, pairs: &[Pair])
-    ensures after { held draft.new ≡ kept (held draft.old ++ pairs_text pairs.now) }
-    ensures short { length (pairs_text pairs.now) ≤ 28 * length pairs.now }
-{
-    for p in pairs {
-        push_pair(draft, *p);
-    }
-}
-
 fn push_head(draft: &mut Draft, file: &SubmissionFile)
-    ensures after { held draft.new ≡ kept (held draft.old ++ head_text (head file.now)) }
+    ensures after { draft.new ≡ kept (draft.old ++ head_text (head file.now)) }
     ensures short { length (head_text (head file.now)) ≤ 80 }
 {
     draft.push_line(b"facility", file.facility as u64);
@@ -42,13 +34,15 @@ fn push_head(draft: &mut Draft, file: &SubmissionFile)
 
 // The written form of a file.
 pub fn written(file: &SubmissionFile) -> Draft
-    ensures { held result ≡ written_form file.now }
+    ensures { result ≡ written_form file.now }
 {
     let mut draft = Draft::new();
     let pairs = file.submission.curve.listed();
     push_head(&mut draft, file);
     draft.push_line(b"pairs", pairs.len() as u64);
-    push_pairs(&mut draft, pairs);
+    for p in pairs {
+        push_pair(&mut draft, *p);
+    }
     draft
 }
 

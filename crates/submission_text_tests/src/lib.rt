@@ -11,10 +11,7 @@ use submission_text::write::write;
 
 // Whether the text is refused with that number and that line.
 fn is_refused(text: &[u8], number: u32, line: u32) -> bool {
-    match read(text) {
-        Ok(_) => false,
-        Err(refusal) => refusal.number() == number && refusal.place() == line,
-    }
+    read(text).is_err_and(|refusal| refusal.number() == number && refusal.place() == line)
 }
 
 // Whether that is what the intake prints for the text.
@@ -73,7 +70,7 @@ mod tests {
     }
 
     #[test]
-    fn later_lines(rt: HostRuntime) -> Result<(), Fail> {
+    fn later_lines(rt: HostRuntime) {
         assert!(rt; is_refused(b"facility=3\ninterval=49\n", 21, 2));
         assert!(rt; is_refused(b"facility=3\ninterval=48\nrampup=0\n", 21, 3));
         assert!(rt;
@@ -100,11 +97,10 @@ mod tests {
             is_refused(with_head!("pairs=2\npair=1:2\n"), 20, 7),
             "a pair too few"
         );
-        Ok(())
     }
 
     #[test]
-    fn pairs(rt: HostRuntime) -> Result<(), Fail> {
+    fn pairs(rt: HostRuntime) {
         assert!(rt;
             is_refused(with_head!("pairs=1\npair=5\n"), 21, 6),
             "no colon"
@@ -136,11 +132,10 @@ mod tests {
             is_refused(with_head!("pairs=1\npair=5:1000001"), 21, 6),
             "21 before 22"
         );
-        Ok(())
     }
 
     #[test]
-    fn answers(rt: HostRuntime) -> Result<(), Fail> {
+    fn answers(rt: HostRuntime) {
         assert!(rt; is_answered(b"", b"refused=20\nline=1\n"));
         assert!(rt; is_answered(with_head!("pairs=0\n"), with_head!("pairs=0\n")));
         assert!(rt;
@@ -157,7 +152,6 @@ mod tests {
             ),
             "dropped, merged, in order"
         );
-        Ok(())
     }
 
     #[test]
@@ -167,14 +161,13 @@ mod tests {
         let needed = text.len();
         assert!(rt; needed <= 79);
         assert!(rt; out.len() == 80);
-        match write(&sample(1), &mut out[0..needed - 1]) {
-            Ok(_) => return Err(Fail::new("one byte short")),
-            Err(short) => assert!(rt; short.number() == 23 && short.place() == needed),
-        }
+        let refused = write(&sample(1), &mut out[0..needed - 1]);
+        assert!(rt;
+            refused.is_err_and(|short| short.number() == 23 && short.place() == needed),
+            "one byte short"
+        );
         assert!(rt; out[0] == b'x', "a refusal writes nothing");
-        let Ok(n) = write(&sample(1), &mut out) else {
-            return Err(Fail::new("long enough"))
-        };
+        let n = write(&sample(1), &mut out)?;
         assert!(rt; n == needed && n < 80);
         assert!(rt; &out[0..n] == text);
         assert!(rt; out[n] == b'x', "bytes past the end stay");
@@ -184,9 +177,7 @@ mod tests {
     #[test]
     fn a_count_too_large(rt: HostRuntime) -> Result<(), Fail> {
         let mut out = [0; 200];
-        let Ok(n) = write(&sample(9), &mut out) else {
-            return Err(Fail::new("long enough"))
-        };
+        let n = write(&sample(9), &mut out)?;
         assert!(rt; n <= 200);
         assert!(rt;
             is_answered(&out[0..n], with_head!("pairs=1\npair=-5:56\n")),

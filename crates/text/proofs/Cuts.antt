@@ -1,38 +1,47 @@
--- The loop that looks for the byte to cut at.
-use Rattle.std.proofs.Common.{◌≡◌, ℕ, ◌+◌, ◌-◌, ◌<◌, ◌≤◌, eqb, List, [], ◌∷◌, ◌++◌, length, get_or, take, drop, Some, None, Option, sym, ap, ◌∙◌, arith}
-use Rattle.std.proofs.lemmas.List.{at_drop_more, at_drop_all, take_rest, take_more, take_all, append_assoc, append-nil}
-use Rattle.std.proofs.lemmas.Bool.{cond-true, cond-false, eq-eqb, ne_eqb}
+-- What stands before the first b and after it, by the place where it stands.
+use Rattle.std.proofs.Common.{◌≡◌, ℕ, ◌+◌, ◌-◌, ◌<◌, ◌≤◌, true, false, cond, not, eqb, ltb, List, [], ◌∷◌, length, take, drop, Some, None, Option, refl, ap, ◌∙◌, arith}
+use Rattle.std.specs.List.{position_or_len}
+use Rattle.std.proofs.lemmas.List.{take_rest}
+use Rattle.std.proofs.lemmas.Bool.Decides.{nat_tests}
 use Rattle.text.specs.Lines.{before, after}
 
--- i bytes of s are passed, none of them b
-abbrev pub Passed : ℕ → List ℕ → ℕ → Type 0
-Passed b s i = (take i s ++ before b (drop i s) ≡ before b s) × (after b (drop i s) ≡ after b s)
+abbrev pub place_of : ℕ → List ℕ → ℕ
+place_of b s = position_or_len (λ c. eqb c b) s
 
-module _ (b : ℕ) (s : List ℕ) (i : ℕ) (p : Passed b s i) where
-  pub cut_here : i < length s → get_or s i 0 ≡ b
-      → (take (i - 0) s ≡ before b s) × (◌≡◌ {A = Option (List ℕ)} (Some (take (length s - (i + 1)) (drop (i + 1) s))) (after b s))
-  cut_here lt e =
-      let x = get_or s i 0 in let rest = drop (i + 1) s in
-      let t = eq-eqb x b e in
-      let f : before b (drop i s) ≡ [] = at_drop_more (before b) s i 0 lt ∙ cond-true (eqb x b) [] (x ∷ before b rest) t in
-      let g : after b (drop i s) ≡ Some rest = at_drop_more (after b) s i 0 lt ∙ cond-true (eqb x b) (Some rest) (after b rest) t in
-      let z : i - 0 ≡ i = omega arith in (
-        ap (λ k. take k s) z ∙ sym (append-nil (take i s)) ∙ ap (λ l. take i s ++ l) (sym f) ∙ p.0,
-        ap Some (take_rest s (i + 1)) ∙ sym g ∙ p.1,
-      )
+before_place : (b : ℕ) (s : List ℕ) → take (place_of b s) s ≡ before b s
+before_place b [] = grind arith
+before_place b (c ∷ cs) =
+    elim (eqb c b) as (λ t. take (cond (not t) (1 + place_of b cs) 0) (c ∷ cs) ≡ cond t [] (c ∷ before b cs)) [
+      | true ↦ grind arith
+      | false ↦ grind (arith, before_place b cs)
+    ]
 
-  pub cut_more : i < length s → (get_or s i 0 ≡ b → ⊥) → Passed b s (i + 1)
-  cut_more lt ne =
-      let x = get_or s i 0 in let rest = drop (i + 1) s in
-      let t = ne_eqb x b ne in
-      let f : before b (drop i s) ≡ x ∷ before b rest = at_drop_more (before b) s i 0 lt ∙ cond-false (eqb x b) [] (x ∷ before b rest) t in
-      let g : after b (drop i s) ≡ after b rest = at_drop_more (after b) s i 0 lt ∙ cond-false (eqb x b) (Some rest) (after b rest) t in (
-        ap (λ l. l ++ before b rest) (take_more s i 0 lt) ∙ append_assoc (take i s) (x ∷ []) (before b rest) ∙ ap (λ l. take i s ++ l) (sym f) ∙ p.0,
-        sym g ∙ p.1,
-      )
+after_place : (b : ℕ) (s : List ℕ) → place_of b s < length s → Some (drop (place_of b s + 1) s) ≡ after b s
+after_place b [] lt = absurd (omega arith)
+after_place b (c ∷ cs) lt =
+    elim (eqb c b) as (λ t. cond (not t) (1 + place_of b cs) 0 < length (c ∷ cs) → Some (drop (cond (not t) (1 + place_of b cs) 0 + 1) (c ∷ cs)) ≡ cond t (Some cs) (after b cs)) [
+      | true ↦ λ lt. grind arith
+      | false ↦ λ lt. let h = after_place b cs (omega arith) in grind (arith, h)
+    ] lt
 
-  pub cut_end : length s ≤ i → (s ≡ before b s) × (◌≡◌ {A = Option (List ℕ)} None (after b s))
-  cut_end le = (
-    sym (take_all i s le) ∙ sym (append-nil (take i s)) ∙ ap (λ l. take i s ++ l) (sym (at_drop_all (before b) s i le)) ∙ p.0,
-    sym (at_drop_all (after b) s i le) ∙ p.1,
-  )
+no_place : (b : ℕ) (s : List ℕ) → length s ≤ place_of b s → (s ≡ before b s) × (◌≡◌ {A = Option (List ℕ)} None (after b s))
+no_place b [] le = (refl, refl)
+no_place b (c ∷ cs) le =
+    elim (eqb c b) as (λ t. length (c ∷ cs) ≤ cond (not t) (1 + place_of b cs) 0 → (c ∷ cs ≡ cond t [] (c ∷ before b cs)) × (◌≡◌ {A = Option (List ℕ)} None (cond t (Some cs) (after b cs)))) [
+      | true ↦ λ le. absurd (omega arith)
+      | false ↦ λ le. let h = no_place b cs (omega arith) in (ap (λ l. c ∷ l) h.0, h.1)
+    ] le
+
+module _ (b : ℕ) (s : List ℕ) where
+  abbrev pub place : Option ℕ
+  place = cond (ltb (place_of b s) (length s)) (Some (place_of b s)) None
+
+  pub found : (i : ℕ) (r : Option ℕ) → r ≡ place → r ≡ Some i
+      → (take i s ≡ before b s) × (◌≡◌ {A = Option (List ℕ)} (Some (take (length s - (i + 1)) (drop (i + 1) s))) (after b s))
+  found i r e is =
+      let lt : place_of b s < length s = grind (arith, nat_tests) in
+      let at : i ≡ place_of b s = grind (arith, nat_tests) in
+      (ap (λ k. take k s) at ∙ before_place b s, ap Some (take_rest s (i + 1)) ∙ ap (λ k. Some (drop (k + 1) s)) at ∙ after_place b s lt)
+
+  pub not_found : (r : Option ℕ) → r ≡ place → r ≡ None → (s ≡ before b s) × (◌≡◌ {A = Option (List ℕ)} None (after b s))
+  not_found r e is = let le : length s ≤ place_of b s = grind (arith, nat_tests) in no_place b s le

@@ -1,10 +1,8 @@
 -- Laws of the reading of digits.
-use Rattle.std.proofs.Common.{◌≡◌, ℕ, ◌+◌, ◌-◌, ◌*◌, ◌^◌, ◌<◌, ◌≤◌, min, true, false, cond, ◌&&◌, leb, List, [], ◌∷◌, length, get_or, take, drop, Some, None, Option, sym, refl, ap, ◌∙◌, arith}
-use Rattle.std.proofs.lemmas.List.{at_drop_more, take_rest}
+use Rattle.std.proofs.Common.{◌≡◌, ℕ, ◌+◌, ◌-◌, ◌*◌, ◌^◌, ◌<◌, min, true, false, cond, List, [], ◌∷◌, length, get_or, drop, Some, None, Option, sym, refl, ap, ◌∙◌, arith}
+use Rattle.std.proofs.lemmas.List.{at_drop_more}
 use Rattle.std.specs.Option.{option_map}
-use Rattle.std.proofs.lemmas.Bool.Decides.{nat_tests}
-use Rattle.std.proofs.lemmas.Bool.{cond-true}
-use Rattle.text.specs.Numbers.{is_digit, onward, positive}
+use Rattle.text.specs.Numbers.{is_digit, onward}
 
 abbrev pub capped : Option ℕ → Option ℕ
 capped o = option_map (min (2 ^ 64)) o
@@ -25,19 +23,3 @@ onward_more n m i s o lt dig e h =
     in onward_capped m (n * 10 + (x - 48)) rest e
     ∙ ap (λ t. capped (cond t (onward (n * 10 + (x - 48)) rest) None)) (sym dig)
     ∙ sym (at_drop_more (λ l. capped (onward n l)) s i 0 lt) ∙ h
-
--- any other byte at i ends it
-pub onward_stop : (n i : ℕ) (s : List ℕ) (o : Option ℕ) → i < length s → is_digit (get_or s i 0) ≡ false
-    → capped (onward n (drop i s)) ≡ o → None ≡ o
-onward_stop n i s o lt dig h =
-    let x = get_or s i 0 in let rest = drop (i + 1) s
-    in ap (λ t. capped (cond t (onward (n * 10 + (x - 48)) rest) None)) (sym dig)
-    ∙ sym (at_drop_more (λ l. capped (onward n l)) s i 0 lt) ∙ h
-
--- a first byte from 1 to 9 is read as a digit, and the rest goes on from it
-pub positive_first : (s : List ℕ) → 0 < length s → 49 ≤ get_or s 0 0 → get_or s 0 0 ≤ 57
-    → positive s ≡ onward (get_or s 0 0 - 48) (take (length s - 1) (drop 1 s))
-positive_first [] lt a b = absurd (omega arith)
-positive_first (c ∷ cs) lt a b =
-    let t : (leb 49 c && leb c 57) ≡ true = grind (arith, nat_tests)
-    in cond-true _ _ _ t ∙ ap (onward (c - 48)) (sym (take_rest (c ∷ cs) 1))

@@ -164,18 +164,6 @@ pub placed_ok : {X : Type 0} (line : ℕ) (r : Result X LineFault) (x : X) → p
 placed_ok line (Ok y) x q = ap Ok (same_ok {E = Refusal} y x q)
 placed_ok line (Err e) x q = absurd (apart_ok _ x q)
 
--- what a line gave, under what it is seen as
-pub line_err : {X Y : Type 0} (f : X → Y) (r : Result X LineFault) (a : Result X Refusal) (s : Result Y LineFault) (line : ℕ) (e : Refusal)
-    → a ≡ placed line r → result_map_both f (λ d. d) r ≡ s → a ≡ Err e → placed line s ≡ Err e
-line_err f (Ok x) a s line e p q t = let k : ◌≡◌ {A = ℕ} 0 1 = cc in absurd (omega arith)
-line_err f (Err d) a s line e p q t =
-    let k : ◌≡◌ {A = Refusal} record { line = line; fault = d } e = cc in ap (placed line) (sym q) ∙ ap Err k
-
-pub line_ok : {X Y : Type 0} (f : X → Y) (r : Result X LineFault) (a : Result X Refusal) (s : Result Y LineFault) (line : ℕ) (x : X)
-    → a ≡ placed line r → result_map_both f (λ d. d) r ≡ s → a ≡ Ok x → s ≡ Ok (f x)
-line_ok f (Ok y) a s line x p q t = let k : y ≡ x = cc in sym q ∙ ap (λ z. Ok (f z)) k
-line_ok f (Err d) a s line x p q t = let k : ◌≡◌ {A = ℕ} 0 1 = cc in absurd (omega arith)
-
 -- the exit of a `?` hands the refusal on
 pub exit_err : {X Y : Type 0} (f : X → Y) (e : Refusal) (r : Result X Refusal) (s : Result Y Refusal)
     → IsErrAnd r (λ y. y ≡ e) → s ≡ Err e → result_map_both f (λ d. d) r ≡ s

@@ -1,5 +1,5 @@
 -- How a line `key=value` of a text is read.
-use Rattle.std.specs.Prelude.{ℕ, cond, List, [], ◌∷◌, ◌++◌, Some, None, Ok, Err, codes, decimal, Option, Result, ◌==◌}
+use Rattle.std.specs.Prelude.{◌≡◌, ℕ, if◌then◌else◌, List, [], ◌∷◌, ◌++◌, Some, None, Ok, Err, codes, decimal, Option, Result, ◌==◌}
 use Rattle.std.specs.Str.{bytes_eq}
 use Rattle.text.specs.declared.number.NumberFault.{NumberFault}
 use Rattle.text.specs.declared.line.LineFault.{LineFault}
@@ -10,16 +10,16 @@ use Rattle.text.specs.Numbers.{natural_of}
 -- the bytes before the first b, or all of them
 abbrev pub before : ℕ → List ℕ → List ℕ
 before b [] = []
-before b (c ∷ cs) = cond (c == b) [] (c ∷ before b cs)
+before b (c ∷ cs) = if c == b then [] else c ∷ before b cs
 
 -- the bytes after the first b, if there is one
 abbrev pub after : ℕ → List ℕ → Option (List ℕ)
 after b [] = None
-after b (c ∷ cs) = cond (c == b) (Some cs) (after b cs)
+after b (c ∷ cs) = if c == b then Some cs else after b cs
 
 -- the bytes after `key=`: the key is what stands before the first `=`
 abbrev pub keyed : List ℕ → List ℕ → Option (List ℕ)
-keyed key line = cond (bytes_eq (before 61 line) key) (after 61 line) None
+keyed key line = if bytes_eq (before 61 line) key then after 61 line else None
 
 -- a fault of a number is a fault of its line
 abbrev pub of_number : {X : Type 0} → Result X NumberFault → Result X LineFault
@@ -40,6 +40,10 @@ ended (Ok x) (Some rest) = Ok (x, rest)
 -- a line with that key whose value is read by f, and the bytes after it
 abbrev pub line_of : {X : Type 0} → (List ℕ → Result X NumberFault) → List ℕ → List ℕ → Result (X × List ℕ) LineFault
 line_of f key s = ended (valued f (keyed key (before 10 s))) (after 10 s)
+
+-- each answer to a value is that of the reader
+abbrev pub Reads : {X : Type 0} → (List ℕ → Result X NumberFault → Type 0) → (List ℕ → Result X NumberFault) → Type 0
+Reads answers f = (v : _) (r : _) → answers v r → r ≡ f v
 
 -- a line `key=number`
 abbrev pub natural_line_of : List ℕ → ℕ → ℕ → List ℕ → Result (ℕ × List ℕ) LineFault

@@ -1,12 +1,20 @@
-// A text in the making, of at most 512 bytes.
-ghost use Rattle.std.specs.Prelude.{◌≡◌, ◌≤◌, length};
+// A text in the making, of at most 512 bytes, which lie in the value itself.
+ghost use Rattle.std.specs.Prelude.{ℕ, List};
+
+use arrayvec::ArrayVec;
+use std::marker::Model;
 
 pub mod acts;
 
+// Kept: a type of its own, since a draft keeps what fits and cannot fail, where a `fmt::Write` answers an error.
 #[derive(Drop)]
 pub struct Draft {
-    bytes: [u8; 512],
-    len: usize,
-    ghost slots: { length bytes ≡ 512 },
-    ghost within: { len ≤ 512 },
+    text: ArrayVec<u8, 512>,
+}
+
+// A clause sees the text so far.
+impl Model for Draft {
+    ghost Value = { List ℕ };
+
+    ghost view = { λ draft. draft.text.items };
 }

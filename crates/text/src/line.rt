@@ -1,9 +1,11 @@
 // Lines `key=value`, each ended by a line feed.
-ghost use Rattle.std.specs.Prelude.{◌≡◌, ◌≤◌, IfOk};
+ghost use Rattle.std.specs.Prelude.{◌≡◌, ℕ, ◌≤◌, List, Result, Ok, IfOk};
+ghost use Rattle.std.specs.Fn.{FnReturnsAt};
 ghost use Rattle.std.specs.Option.{option_map};
 ghost use Rattle.std.specs.Result.{result_map_both as mapped_both};
 ghost use Rattle.text.specs.declared.line.LineFault.TheVariants.{Number};
-ghost use Rattle.text.specs.Lines.{before, after, keyed, natural_line_of};
+ghost use Rattle.text.specs.declared.number.NumberFault.{NumberFault as Fault};
+ghost use Rattle.text.specs.Lines.{before, after, keyed, line_of, natural_line_of, Reads};
 
 use crate::number::{NumberFault, natural};
 
@@ -33,12 +35,10 @@ pub fn cut(s: &[u8], b: u8) -> (&[u8], Option<&[u8]>)
     ensures front { result.0.now ≡ before b s.now }
     ensures back { option_map (λ x. x.now) result.1 ≡ after b s.now }
 {
-    for (i, x) in s.iter().enumerate() {
-        if *x == b {
-            return (&s[0..i], Some(&s[i + 1..]));
-        }
+    match s.iter().position(|x| *x == b) {
+        Some(i) => (&s[..i], Some(&s[i + 1..])),
+        None => (s, None),
     }
-    (s, None)
 }
 
 // The bytes after `key=`.
@@ -46,7 +46,25 @@ pub fn value_of<'a>(line: &'a [u8], key: &[u8]) -> Option<&'a [u8]>
     ensures { option_map (λ x. x.now) result ≡ keyed key.now line.now }
 {
     let (name, value) = cut(line, b'=');
+    // Kept: `value.filter(|_| name == key)` would be a test that does not read what it tests.
     if name == key { value } else { None }
+}
+
+// A line `key=value` whose value that function reads, and the bytes after it.
+pub fn line_with<'a, T: Drop, F: Fn(&[u8]) -> Result<T, NumberFault>>(
+    s: &'a [u8],
+    key: &[u8],
+    read: F,
+) -> Result<(T, &'a [u8]), LineFault>
+    requires callable { F.IsAlwaysCallable read }
+    ensures told { IfOk result (λ x. (v : List ℕ) × FnReturnsAt F.Fn read v (Ok x.0)) }
+    ensures value { (reader : List ℕ → Result T Fault) → Reads (FnReturnsAt F.Fn read) reader → mapped_both (λ x. (x.0, x.1.now)) (λ e. e) result ≡ line_of reader key.now s.now }
+{
+    let (line, rest) = cut(s, b'\n');
+    let value = value_of(line, key).ok_or(LineFault::Key)?;
+    let x = read(value)?;
+    let rest = rest.ok_or(LineFault::Feed)?;
+    Ok((x, rest))
 }
 
 // A line `key=number`, and the bytes after it.
@@ -59,9 +77,5 @@ pub fn natural_line<'a>(
     ensures within { IfOk result (λ x. (low ≤ x.0) × (x.0 ≤ high)) }
     ensures value { mapped_both (λ x. (x.0, x.1.now)) (λ e. e) result ≡ natural_line_of key.now low high s.now }
 {
-    let (line, rest) = cut(s, b'\n');
-    let value = value_of(line, key).ok_or(LineFault::Key)?;
-    let n = natural(value, low, high)?;
-    let rest = rest.ok_or(LineFault::Feed)?;
-    Ok((n, rest))
+    line_with(s, key, |value| natural(value, low, high))
 }

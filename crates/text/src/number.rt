@@ -1,7 +1,7 @@
 // Numbers as a text has them: digits with no leading zero, a minus only before a number above zero.
 ghost use Rattle.std.specs.Prelude.{◌≡◌, ℕ, ◌+◌, ◌*◌, ◌^◌, ◌≤◌, min, ◌≤ℤ◌, IfOk, Some};
 ghost use Rattle.std.specs.Option.{option_map};
-ghost use Rattle.text.specs.Numbers.{onward, positive, in_span, in_signed_span, natural_of, signed_of, ReadsNatural, ReadsSigned};
+ghost use Rattle.text.specs.Numbers.{onward, positive, plain, with_sign, clamped, natural_of, signed_of, ReadsNatural, ReadsSigned};
 
 // Why bytes are not the number that is asked for.
 #[derive(Clone, Copy, PartialEq, Eq, Debug)]
@@ -15,23 +15,15 @@ pub enum NumberFault {
 // Any number from here on lies outside every span of 64 bits.
 const CAP: u128 = 18_446_744_073_709_551_616;
 
-// One digit more.
-fn further(n: u128, digit: u8) -> u128
-    requires { n ≤ 2 ^ 64 }
-    ensures { result ≡ min (2 ^ 64) (n * 10 + digit) }
-{
-    let m = n * 10 + u128::from(digit);
-    if m < CAP { m } else { CAP }
-}
-
 // The number that the digits go on to after `first`, or the cap where it is larger.
 fn digits(first: u8, rest: &[u8]) -> Option<u128>
     ensures { result ≡ option_map (min (2 ^ 64)) (onward first rest.now) }
 {
+    // Kept: of the closure in a `try_fold` it stays unproved that the next product fits (`try_fold-requires-clause-callable`).
     let mut n = u128::from(first);
     for b in rest {
         match *b {
-            b'0'..=b'9' => n = further(n, *b - b'0'),
+            b'0'..=b'9' => n = (n * 10 + u128::from(*b - b'0')).min(CAP),
             _ => return None,
         }
     }
@@ -48,55 +40,51 @@ fn magnitude(s: &[u8]) -> Option<u128>
     }
 }
 
-fn spanned(value: u128, low: u64, high: u64) -> Result<u64, NumberFault>
-    ensures { result ≡ in_span low high (Some value) }
+// A single 0, or a number above zero.
+fn unsigned(s: &[u8]) -> Option<u128>
+    ensures { result ≡ option_map (min (2 ^ 64)) (plain s.now) }
 {
-    if u128::from(low) <= value && value <= u128::from(high) {
-        Ok(value as u64)
-    } else {
-        Err(NumberFault::Span)
+    match s {
+        [b'0'] => Some(0),
+        _ => magnitude(s),
     }
 }
 
-fn spanned_signed(value: i128, low: i64, high: i64) -> Result<i64, NumberFault>
-    ensures { result ≡ in_signed_span low high (Some value) }
-{
-    if low as i128 <= value && value <= high as i128 {
-        Ok(value as i64)
-    } else {
-        Err(NumberFault::Span)
-    }
-}
-
+// Kept: this and `read_signed` end alike, but over numbers and signed numbers; one function for both would state by a bound what
+// a conversion gives, and be longer than the two.
 fn read_natural(s: &[u8], low: u64, high: u64) -> Result<u64, NumberFault>
     ensures { result ≡ natural_of low high s.now }
 {
+    let n = unsigned(s).ok_or(NumberFault::Form)?;
+    match u64::try_from(n) {
+        Ok(n) if (low..=high).contains(&n) => Ok(n),
+        _ => Err(NumberFault::Span),
+    }
+}
+
+// A minus and a number above zero, or a number without a sign; at most the cap on either side.
+fn integer(s: &[u8]) -> Option<i128>
+    ensures { result ≡ option_map clamped (with_sign s.now) }
+{
     match s {
-        [b'0'] => spanned(0, low, high),
-        _ => match magnitude(s) {
-            Some(n) => spanned(n, low, high),
-            None => Err(NumberFault::Form),
-        },
+        [b'-', rest @ ..] => magnitude(rest).map(|n| -(n as i128)),
+        _ => unsigned(s).map(|n| n as i128),
     }
 }
 
 fn read_signed(s: &[u8], low: i64, high: i64) -> Result<i64, NumberFault>
     ensures { result ≡ signed_of low high s.now }
 {
-    match s {
-        [b'-', rest @ ..] => match magnitude(rest) {
-            Some(n) => spanned_signed(-(n as i128), low, high),
-            None => Err(NumberFault::Form),
-        },
-        [b'0'] => spanned_signed(0, low, high),
-        _ => match magnitude(s) {
-            Some(n) => spanned_signed(n as i128, low, high),
-            None => Err(NumberFault::Form),
-        },
+    let z = integer(s).ok_or(NumberFault::Form)?;
+    match i64::try_from(z) {
+        Ok(z) if (low..=high).contains(&z) => Ok(z),
+        _ => Err(NumberFault::Span),
     }
 }
 
 // The number without a sign that the bytes are, if it lies from low to high.
+// Kept: apart from `read_natural`, as `signed` from `read_signed`: span and form are drawn once from the value told there, and not at
+// each of its three exits.
 pub fn natural(s: &[u8], low: u64, high: u64) -> Result<u64, NumberFault>
     ensures value { result ≡ natural_of low high s.now }
     ensures within { IfOk result (λ n. (low ≤ n) × (n ≤ high)) }

@@ -20,14 +20,14 @@ pub struct TextTooShort {
 }
 
 impl Refusal {
+    // Kept: a refusal gives two numbers, this one and its place; a `From` would not say which it means.
     pub fn number(self) -> u32
         ensures { result ≡ refusal_number (cause self.fault) }
     {
         match self.fault {
             LineFault::Key => 20,
             LineFault::Number(_) => 21,
-            LineFault::Feed => 22,
-            LineFault::Extra => 22,
+            LineFault::Feed | LineFault::Extra => 22,
         }
     }
 
@@ -58,8 +58,5 @@ impl TextTooShort {
 pub fn on_line<T>(line: u32, r: Result<T, LineFault>) -> Result<T, Refusal>
     ensures { result ≡ placed line r }
 {
-    match r {
-        Ok(x) => Ok(x),
-        Err(fault) => Err(Refusal { line, fault }),
-    }
+    r.map_err(|fault| Refusal { line, fault })
 }

@@ -2,15 +2,15 @@ use Rattle.std.proofs.Common.{◌++◌, codes, decimal, ap, ◌∙◌, arith, w6
 use Rattle.std.proofs.lemmas.List.{length-append}
 use Rattle.std.proofs.lemmas.Int.{to_z-of_z}
 use Rattle.std.specs.Fmt.{signed_decimal}
-use Rattle.text.specs.Drafts.{held, kept}
+use Rattle.text.specs.Drafts.{kept}
 use Rattle.answer_text.specs.Answers.{balance_text}
 use Rattle.answer_text.proofs.Joining.{from_none, four, short_signed}
 use Rattle.answer_text.proofs.balance_line.Goals as goal
 
 pub returns : goal.returns
 returns c =
-    let new = held c.new-draft.result in let a = held c.push_figure.new.draft in let b = held c.push.new.self in
-    let d = held c.push_signed.new.self in let e = held c.push-2.new.self in
+    let new = c.new-draft.result in let a = c.push_figure.new.draft in let b = c.push.new.self in
+    let d = c.push_signed.new.self in let e = c.push-2.new.self in
     let n = c.args.account in let z = c.args.cents in
     from_none new e (balance_text n z) c.new-draft.ensures
     (omega (arith, length-append (codes "account=" ++ decimal n) (codes " balance=" ++ (signed_decimal z ++ codes "\n")), length-append (signed_decimal z) (codes "\n"), c.push_figure.ensures.short, short_signed z c.ranges.cents))

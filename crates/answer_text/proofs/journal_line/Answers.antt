@@ -2,15 +2,15 @@ use Rattle.std.proofs.Common.{◌++◌, codes, decimal, ap, ◌∙◌, arith, w6
 use Rattle.std.proofs.lemmas.List.{length-append}
 use Rattle.std.proofs.lemmas.Int.{to_z-of_z}
 use Rattle.std.specs.Fmt.{signed_decimal}
-use Rattle.text.specs.Drafts.{held, kept}
+use Rattle.text.specs.Drafts.{kept}
 use Rattle.answer_text.specs.Answers.{journal_text}
 use Rattle.answer_text.proofs.Joining.{from_none, five, short_signed}
 use Rattle.answer_text.proofs.journal_line.Goals as goal
 
 pub returns : goal.returns
 returns c =
-    let new = held c.new-draft.result in let a = held c.push_figure.new.draft in let b = held c.push_figure-2.new.draft in
-    let d = held c.push.new.self in let e = held c.push_signed.new.self in let f = held c.push-2.new.self in
+    let new = c.new-draft.result in let a = c.push_figure.new.draft in let b = c.push_figure-2.new.draft in
+    let d = c.push.new.self in let e = c.push_signed.new.self in let f = c.push-2.new.self in
     let k = c.args.line in let n = c.args.account in let z = c.args.cents in
     let x = codes "line=" ++ decimal k in let y = codes " account=" ++ decimal n in let w = signed_decimal z in
     let all = five new a b d e f x y (codes " cents=") w (codes "\n") c.push_figure.ensures.after c.push_figure-2.ensures.after c.push.ensures

@@ -2,14 +2,14 @@ use Rattle.std.proofs.Common.{◌++◌, codes, decimal, ap, ◌∙◌, arith, w6
 use Rattle.std.proofs.lemmas.List.{length-append}
 use Rattle.std.proofs.lemmas.Int.{to_z-of_z}
 use Rattle.std.specs.Fmt.{signed_decimal}
-use Rattle.text.specs.Drafts.{held, kept}
+use Rattle.text.specs.Drafts.{kept}
 use Rattle.answer_text.proofs.Joining.{three, short_signed}
 use Rattle.answer_text.proofs.push_price.Goals as goal
 
 pub returns : goal.returns
 returns c =
-    let old = held c.args.draft.now in let z = c.args.price in let n = c.args.facility in
-    let a = held c.push.new.self in let b = held c.push_signed.new.self in let d = held c.push_figure.new.draft in
+    let old = c.args.draft.now in let z = c.args.price in let n = c.args.facility in
+    let a = c.push.new.self in let b = c.push_signed.new.self in let d = c.push_figure.new.draft in
     let y = signed_decimal z in let w = codes " facility=" ++ decimal n in
     record {
       after = three old a b d (codes "price=") y w c.push.ensures

@@ -1,6 +1,6 @@
 use Rattle.std.proofs.Common.{◌++◌, length, codes, decimal, ap, ◌∙◌, arith}
 use Rattle.std.proofs.lemmas.List.{length-append}
-use Rattle.text.specs.Drafts.{held, kept}
+use Rattle.text.specs.Drafts.{kept}
 use Rattle.refusals.specs.Table.{refusal_number, refusal_place, refusal_reason}
 use Rattle.answer_text.specs.Answers.{reason_words}
 use Rattle.answer_text.proofs.Joining.{three}
@@ -8,8 +8,8 @@ use Rattle.answer_text.proofs.push_refusal.Goals as goal
 
 pub returns : goal.returns
 returns c =
-    let old = held c.args.draft.now in let f = c.args.refusal in
-    let a = held c.push_figure.new.draft in let b = held c.push_figure-2.new.draft in let d = held c.push_reason.new.draft in
+    let old = c.args.draft.now in let f = c.args.refusal in
+    let a = c.push_figure.new.draft in let b = c.push_figure-2.new.draft in let d = c.push_reason.new.draft in
     let x = codes "refused=" ++ decimal (refusal_number f) in let y = codes " place=" ++ decimal (refusal_place f) in let z = reason_words (refusal_reason f) in
     record {
       after = three old a b d x y z

@@ -1,11 +1,12 @@
 // Three accounts within the whole span of money; each post takes one of the places.
+// Kept: its like in the tests of `ledgers` has other bounds, and the tests of the two crates share no crate.
 ghost use Rattle.std.specs.Prelude.{◌≡◌, ◌≤◌, replicate, pos};
 ghost use Rattle.day_tests.specs.Small.{small_view, small_sound};
 ghost use Rattle.ledgers.specs.Tables.{AllInSpan};
 
 use ledger::accounts::{Accounts, Ledger, MOST};
 use ledger::reason::Reason;
-use ledger::row::refusal_of;
+use ledger::row::check_post;
 
 #[derive(Clone, Copy)]
 pub struct Small {
@@ -41,19 +42,15 @@ impl Accounts for Small {
     }
 
     fn balance(&self, account: usize) -> Option<i64> {
-        if account < 3 {
-            Some(self.balances[account])
-        } else {
-            None
-        }
+        self.balances.get(account).copied()
     }
 
     fn lowest(&self, account: usize) -> Option<i64> {
-        if account < 3 { Some(-MOST) } else { None }
+        (account < 3).then_some(-MOST)
     }
 
     fn highest(&self, account: usize) -> Option<i64> {
-        if account < 3 { Some(MOST) } else { None }
+        (account < 3).then_some(MOST)
     }
 }
 
@@ -65,9 +62,7 @@ impl Ledger for Small {
     ghost more = { λ _ _ _ _ _ _ _. tt };
 
     fn post(&mut self, account: usize, cents: i64) -> Result<(), Reason> {
-        if let Some(reason) = refusal_of(self, account, cents) {
-            return Err(reason);
-        }
+        check_post(self, account, cents)?;
         self.balances[account] += cents;
         self.left -= 1;
         Ok(())

@@ -8,6 +8,7 @@ use refusals::Refusal;
 use sheets::register::Register;
 use sheets::row::Row;
 use std::alloc::{AllocError, Global};
+use std::array;
 use std::test::*;
 
 const CHEAP_AND_DEAR: [Pair; 2] = [
@@ -133,23 +134,16 @@ pub fn adjust(facility: u32, interval: u32, kwmin: u32) -> Call<'static> {
     }
 }
 
+// Kept: three lines that the tests of the pool have too; a crate of them would be longer.
 // Whether a call was refused with that number and place.
 pub fn is_refused(answer: Result<Answer, Refusal>, number: u32, place: usize) -> bool {
-    match answer {
-        Ok(_) => false,
-        Err(refusal) => refusal.number() == number && refusal.place() == place,
-    }
+    answer.is_err_and(|refusal| refusal.number() == number && refusal.place() == place)
 }
 
 // Whether the ledger would not take the amounts, for the reason of that number and at that place.
 pub fn is_not_posted(answer: Result<Answer, Refusal>, reason: u32, place: usize) -> bool {
-    let Err(refusal) = answer else {
-        return false;
-    };
-    match refusal.reason() {
-        Some(why) => why.number() == reason && is_refused(answer, 12, place),
-        None => false,
-    }
+    let why = answer.err().and_then(|refusal| refusal.reason());
+    is_refused(answer, 12, place) && why.is_some_and(|why| why.number() == reason)
 }
 
 #[derive(Drop)]
@@ -189,29 +183,21 @@ impl<L: Ledger> Day<L> {
     // Makes calls of which none is refused.
     pub fn take(&mut self, calls: &[Call]) -> Result<(), Fail> {
         let answers = self.make(calls)?;
-        for answer in &answers {
-            if answer.is_err() {
-                return Err(Fail::from("a call was refused"));
-            }
+        if answers.iter().any(|answer| answer.is_err()) {
+            return Err(Fail::from("a call was refused"));
         }
         Ok(())
     }
 
     // The balance of each account from 0, zero where the ledger has none.
     pub fn balances(&self) -> [i64; 12] {
-        let mut balances = [0; 12];
-        for i in 0..12usize {
-            balances[i] = self.ledger.balance(i).unwrap_or(0);
-        }
-        balances
+        array::from_fn(|account| self.ledger.balance(account).unwrap_or(0))
     }
 
     pub fn total(&self) -> i64 {
-        let mut total: i64 = 0;
-        for cents in self.balances() {
-            total = total.wrapping_add(cents);
-        }
-        total
+        self.balances()
+            .iter()
+            .fold(0, |total, cents| total.wrapping_add(*cents))
     }
 }
 

@@ -5,7 +5,7 @@ ghost use Rattle.schedule.specs.Stations as stations;
 ghost use Rattle.schedule.specs.Held.{operation};
 
 use super::Station;
-use crate::block::{Block, Blocks, cost_of_all, divide_above, divide_below, lay_blocks};
+use crate::block::{Block, Blocks, cost_of_all, divide, lay_blocks};
 use crate::direction::OutOfMerit;
 use crate::span::BalancingPrice;
 
@@ -30,11 +30,13 @@ impl Station {
         match self.out_of_merit(price) {
             OutOfMerit::Upward(x) => {
                 let n = self.lay(&mut all);
-                divide_above(&all[0..n], price, x)
+                divide(&all[..n], x, |adjusted| adjusted > price.get())
             }
             OutOfMerit::Downward(x) => {
                 let n = self.lay(&mut all);
-                divide_below(&all[0..n], price, x)
+                let laid = &mut all[..n];
+                laid.reverse();
+                divide(laid, x, |adjusted| adjusted < price.get())
             }
             OutOfMerit::Neither => Blocks::untaken(0),
         }

@@ -11,21 +11,17 @@ use offers::curve::Curve;
 use offers::pair::Pair;
 use offers::submission::Submission;
 
+// Kept: `sheets` tests prices and rates by functions of its own, over definitions of its own; neither crate builds on the other.
 fn price_fits(p: Pair) -> bool
     ensures { result ≡ spans.price_fits p }
 {
-    -100_000 <= p.price && p.price <= 100_000
+    (-100_000..=100_000).contains(&p.price)
 }
 
 fn prices_fit(pairs: &[Pair]) -> bool
     ensures { result ≡ all spans.price_fits pairs.now }
 {
-    for p in pairs {
-        if !price_fits(*p) {
-            return false;
-        }
-    }
-    true
+    pairs.iter().all(|p| price_fits(*p))
 }
 
 fn curve_fits(c: &Curve) -> bool
@@ -40,7 +36,7 @@ fn curve_fits(c: &Curve) -> bool
 fn ramp_fits(rate: u32) -> bool
     ensures { result ≡ spans.ramp_fits rate }
 {
-    1 <= rate && rate <= 1_000_000
+    (1..=1_000_000).contains(&rate)
 }
 
 fn submission_fits(s: &Submission) -> bool
@@ -59,6 +55,7 @@ fn figures_fit(tolerance: u32, start: u32, reading: u32) -> bool
 }
 
 impl Station {
+    // Kept: the figures come from facility, row and interval; a struct of the five would be made only to be taken apart here.
     // Nothing where a figure is outside its span, or the curve is out of form.
     pub fn new(
         loss_factor: u32,
@@ -71,9 +68,7 @@ impl Station {
     {
         let figures = figures_fit(tolerance, start, reading);
         let submitted = submission_fits(&submission);
-        let Some(factor) = LossFactor::new(loss_factor) else {
-            return None;
-        };
+        let factor = LossFactor::try_from(loss_factor).ok()?;
         if !figures || !submitted {
             return None;
         }

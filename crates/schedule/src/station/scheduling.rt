@@ -1,8 +1,8 @@
 // The schedules of a station, and its energy out of merit.
-ghost use Rattle.std.specs.Prelude.{◌≡◌, ◌≤◌, if◌then◌else◌, int_le, int_lt};
+ghost use Rattle.std.specs.Prelude.{◌≡◌, ◌≤◌, Bool, ℤ};
 ghost use Rattle.offers.specs.Curves as curves;
-ghost use Rattle.schedule.specs.Rounding as rounding;
 ghost use Rattle.schedule.specs.Blocks as blocking;
+ghost use Rattle.schedule.specs.Blocks.{Tests};
 ghost use Rattle.schedule.specs.Stations as stations;
 ghost use Rattle.schedule.specs.Held.{operation};
 
@@ -13,44 +13,19 @@ use crate::round::adjusted_price;
 use crate::span::{BalancingPrice, LossFactor};
 use offers::pair::Pair;
 
-// kW offered below the price, and up to it.
-#[derive(Clone, Copy)]
-struct ScheduledKw {
-    below: u32,
-    up_to: u32,
-}
-
-fn kw_if(counts: bool, kw: u32) -> u32
-    ensures { result ≡ (if counts then kw else 0) }
+// The kW of the pairs whose adjusted price counts.
+fn kw_where<F: Fn(i64) -> bool>(curve: &[Pair], factor: LossFactor, counts: F) -> u32
+    requires few { curves.total curve.now ≤ 1000000 }
+    requires callable { F.IsAlwaysCallable counts }
+    ensures { (test : ℤ → Bool) → Tests (F.post counts) test → result ≡ blocking.kw_where test factor.value curve.now }
 {
-    if counts { kw } else { 0 }
-}
-
-fn pair_scheduled(p: Pair, factor: LossFactor, price: BalancingPrice) -> ScheduledKw
-    ensures below { result.below ≡ (if int_lt (rounding.adjusted p.price factor.value) price.cents then p.kw else 0) }
-    ensures upto { result.up_to ≡ (if int_le (rounding.adjusted p.price factor.value) price.cents then p.kw else 0) }
-{
-    let adjusted = adjusted_price(p.price, factor);
-    let cents = price.get();
-    ScheduledKw {
-        below: kw_if(adjusted < cents, p.kw),
-        up_to: kw_if(adjusted <= cents, p.kw),
-    }
-}
-
-fn scheduled(curve: &[Pair], factor: LossFactor, price: BalancingPrice) -> ScheduledKw
-    requires { curves.total curve.now ≤ 1000000 }
-    ensures below { result.below ≡ blocking.kw_where (λ a. int_lt a price.cents) factor.value curve.now }
-    ensures upto { result.up_to ≡ blocking.kw_where (λ a. int_le a price.cents) factor.value curve.now }
-{
-    let mut below = 0;
-    let mut up_to = 0;
-    for p in curve {
-        let s = pair_scheduled(*p, factor, price);
-        below += s.below;
-        up_to += s.up_to;
-    }
-    ScheduledKw { below, up_to }
+    curve.iter().fold(0, |kw, p| {
+        if counts(adjusted_price(p.price, factor)) {
+            kw + p.kw
+        } else {
+            kw
+        }
+    })
 }
 
 // A difference counts whole above the tolerance, else not at all.
@@ -77,16 +52,16 @@ impl Station {
     pub fn upper(&self, price: BalancingPrice) -> u64
         ensures { result ≡ stations.upper (operation self.now) price.cents }
     {
-        let kw = scheduled(self.submission.curve.listed(), self.factor, price);
-        self.ramp().energy(kw.up_to)
+        let curve = self.submission.curve.listed();
+        self.ramp().energy(kw_where(curve, self.factor, |adjusted| adjusted <= price.get()))
     }
 
     // The lower schedule: energy of what is offered below the price.
     pub fn lower(&self, price: BalancingPrice) -> u64
         ensures { result ≡ stations.lower (operation self.now) price.cents }
     {
-        let kw = scheduled(self.submission.curve.listed(), self.factor, price);
-        self.ramp().energy(kw.below)
+        let curve = self.submission.curve.listed();
+        self.ramp().energy(kw_where(curve, self.factor, |adjusted| adjusted < price.get()))
     }
 
     // How far the reading is above the upper schedule or below the lower one, where that passes the tolerance.

@@ -13,14 +13,8 @@ impl Register {
         ensures facilities { known result ≡ [] }
         ensures prices { result.prices ≡ None }
     {
-        let none = Facility {
-            account: 0,
-            loss_factor: 0,
-            capacity: 0,
-            tolerance: 0,
-        };
         Register {
-            facilities: [none; 12],
+            facilities: [Facility::default(); 12],
             count: 0,
             prices: None,
         }
@@ -31,7 +25,7 @@ impl Register {
         ensures value { result.now ≡ known self.now }
         ensures few { length result.now ≤ 12 }
     {
-        &self.facilities[0..self.count]
+        &self.facilities[..self.count]
     }
 
     // The day's prices, once it is open.
@@ -56,6 +50,7 @@ impl Register {
     }
 
     // Opens the day. False, with nothing changed, where it is open, or the prices are outside their span or out of order.
+    // Kept: a bool, as of `HashSet::insert`; the caller's own table tells the refusals apart.
     pub fn open(&mut self, prices: Prices) -> bool
         ensures { Opened self.old prices result self.new }
     {

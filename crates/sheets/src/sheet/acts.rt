@@ -16,17 +16,13 @@ use refusals::Refusal;
 fn row_sound(register: &Register, row: &Row) -> bool
     ensures { result ≡ sheet_sound (known register.now) register.now.prices row.now }
 {
-    let Some(prices) = register.prices() else {
-        return false;
-    };
     let facilities = register.facilities();
-    if !table_sound(prices, facilities, &row.figures)
-        || !demand_fits(row.demand)
-        || !positions_fit(&row.positions)
-    {
-        return false;
-    }
-    stage_sound(facilities.len(), row)
+    register
+        .prices()
+        .is_some_and(|prices| table_sound(prices, facilities, &row.figures))
+        && demand_fits(row.demand)
+        && positions_fit(&row.positions)
+        && stage_sound(facilities.len(), row)
 }
 
 impl<'a> Sheet<'a> {
@@ -34,6 +30,7 @@ impl<'a> Sheet<'a> {
     pub fn checked(register: &'a Register, row: Row) -> Option<Sheet<'a>>
         ensures { Becomes (sheet_sound (known register.now) register.now.prices row) register.now row result }
     {
+        // Kept: a sheet may be made only once its row is known to be sound, and the value of a `then_some` comes before its test.
         if row_sound(register, &row) {
             Some(Sheet { register, row })
         } else {
@@ -51,6 +48,7 @@ impl<'a> Sheet<'a> {
     pub fn next(&self, event: Event, interval: u32) -> Result<State, Refusal>
         ensures { result ≡ ok_or (next self.now.row.state event) (refusal.State interval) }
     {
+        // Kept: one `match` on state and event together is the table of states as one reads it.
         match (self.row.state, event) {
             (State::Open, Event::Lodge | Event::Figure | Event::Demand) => Ok(State::Open),
             (State::Open, Event::Close) => Ok(State::Closed),
@@ -77,7 +75,7 @@ impl<'a> Sheet<'a> {
         ensures each { length result.now ≡ length (known self.now.register.now) }
     {
         let n = self.register.facilities().len();
-        &self.row.figures[0..n]
+        &self.row.figures[..n]
     }
 
     // The positions of accounts 1 to 11.

@@ -1,13 +1,14 @@
 // One thing of a sheet changed by value. Nothing is answered where the sheet would not take the change.
+// Kept: the changes have one form, but each its own test, field and contract; one function with closures would state a contract over each.
 ghost use Rattle.std.specs.Prelude.{◌≡◌};
 ghost use Rattle.sheets.specs.declared.row.State.TheVariants as state;
 ghost use Rattle.sheets.specs.Sheets.{with_submission, with_start, with_reading, with_demand, with_position, with_state};
 ghost use Rattle.sheets.specs.Changes.{Becomes, comes, takes_submission, takes_start, takes_reading, takes_demand, takes_position, may_close, may_settle};
 
-use crate::row::{Event, Figures, Position, Row, State};
+use crate::row::{Event, Position, State};
 use crate::sheet::Sheet;
 use crate::sound::{
-    all_complete, any_load, demand_fits, demand_reached, position_fits, reading_fits, start_fits,
+    all_complete, demand_fits, demand_reached, position_fits, reading_fits, start_fits,
     submission_sound,
 };
 use offers::submission::Submission;
@@ -23,23 +24,14 @@ impl<'a> Sheet<'a> {
     pub fn with_submission(self, at: usize, submission: Submission) -> Option<Sheet<'a>>
         ensures { Becomes (takes_submission self.entry.register.now self.entry.row at submission) self.entry.register.now (with_submission self.entry.row at submission) result }
     {
-        let facilities = self.register.facilities();
-        if !self.comes(Event::Lodge) || at >= facilities.len() {
-            return None;
-        }
         let prices = self.register.prices()?;
-        if !submission_sound(prices, facilities[at], &submission) {
+        let facility = self.facilities().get(at)?;
+        if !self.comes(Event::Lodge) || !submission_sound(prices, *facility, &submission) {
             return None;
         }
-        let mut row = self.row;
-        row.figures[at] = Figures {
-            submission: Some(submission),
-            ..row.figures[at]
-        };
-        Some(Sheet {
-            register: self.register,
-            row,
-        })
+        let Sheet { register, mut row } = self;
+        row.figures[at].submission = Some(submission);
+        Some(Sheet { register, row })
     }
 
     // Another start level of the facility at a place.
@@ -49,15 +41,9 @@ impl<'a> Sheet<'a> {
         if at >= self.register.facilities().len() || !start_fits(Some(kw)) {
             return None;
         }
-        let mut row = self.row;
-        row.figures[at] = Figures {
-            start: Some(kw),
-            ..row.figures[at]
-        };
-        Some(Sheet {
-            register: self.register,
-            row,
-        })
+        let Sheet { register, mut row } = self;
+        row.figures[at].start = Some(kw);
+        Some(Sheet { register, row })
     }
 
     // Another reading of the facility at a place.
@@ -67,15 +53,9 @@ impl<'a> Sheet<'a> {
         if at >= self.register.facilities().len() || !reading_fits(Some(kwmin)) {
             return None;
         }
-        let mut row = self.row;
-        row.figures[at] = Figures {
-            reading: Some(kwmin),
-            ..row.figures[at]
-        };
-        Some(Sheet {
-            register: self.register,
-            row,
-        })
+        let Sheet { register, mut row } = self;
+        row.figures[at].reading = Some(kwmin);
+        Some(Sheet { register, row })
     }
 
     // Another demand.
@@ -85,13 +65,9 @@ impl<'a> Sheet<'a> {
         if !self.comes(Event::Demand) || !demand_fits(Some(kw)) {
             return None;
         }
-        Some(Sheet {
-            register: self.register,
-            row: Row {
-                demand: Some(kw),
-                ..self.row
-            },
-        })
+        let Sheet { register, mut row } = self;
+        row.demand = Some(kw);
+        Some(Sheet { register, row })
     }
 
     // Another position of the account at a place.
@@ -101,48 +77,32 @@ impl<'a> Sheet<'a> {
         if !self.comes(Event::Figure) || at >= 11 || !position_fits(position) {
             return None;
         }
-        let mut row = self.row;
+        let Sheet { register, mut row } = self;
         row.positions[at] = position;
-        Some(Sheet {
-            register: self.register,
-            row,
-        })
+        Some(Sheet { register, row })
     }
 
     // The open sheet, closed.
     pub fn closed(self) -> Option<Sheet<'a>>
         ensures { Becomes (may_close self.entry.register.now self.entry.row) self.entry.register.now (with_state self.entry.row state.Closed) result }
     {
-        let n = self.register.facilities().len();
-        if !self.comes(Event::Close) || !demand_reached(&self.row.figures[0..n], self.row.demand) {
+        if !self.comes(Event::Close) || !demand_reached(self.figures(), self.row.demand) {
             return None;
         }
-        Some(Sheet {
-            register: self.register,
-            row: Row {
-                state: State::Closed,
-                ..self.row
-            },
-        })
+        let Sheet { register, mut row } = self;
+        row.state = State::Closed;
+        Some(Sheet { register, row })
     }
 
     // The closed sheet, settled.
     pub fn settled(self) -> Option<Sheet<'a>>
         ensures { Becomes (may_settle self.entry.register.now self.entry.row) self.entry.register.now (with_state self.entry.row state.Settled) result }
     {
-        let n = self.register.facilities().len();
-        if !self.comes(Event::Settle)
-            || !all_complete(&self.row.figures[0..n])
-            || !any_load(&self.row.positions)
-        {
+        if !self.comes(Event::Settle) || !all_complete(self.figures()) || !self.has_load() {
             return None;
         }
-        Some(Sheet {
-            register: self.register,
-            row: Row {
-                state: State::Settled,
-                ..self.row
-            },
-        })
+        let Sheet { register, mut row } = self;
+        row.state = State::Settled;
+        Some(Sheet { register, row })
     }
 }

@@ -1,16 +1,8 @@
-use Rattle.std.proofs.Common.{arith}
+use Rattle.std.proofs.Common.{arith, rules}
 use Rattle.amounts.specs.Sums.{own_part}
-use Rattle.amounts.proofs.Summing.{summed_more, summed_all}
 use Rattle.amounts.proofs.facility.owed.Goals as goal
-
-pub loop-at-preserved : goal.loop-at-preserved
-loop-at-preserved c =
-    summed_more (own_part c.args.price.cents) 93750000000000000 c.args.account c.args.sheet.now c.facilities-at-end.result.now c.facilities-at-end.ensures.value c.loop-at.at c.loop-at.sum c.loop-at.invariant
-    c.owed_at-sum.result c.loop-at-test.true c.owed_at-sum.ensures.value c.owed_at-sum.ensures.bound
 
 pub returns : goal.returns
 returns c =
-    record {
-      value = summed_all (own_part c.args.price.cents) 93750000000000000 c.args.account c.args.sheet.now c.facilities-at-end.result.now c.facilities-at-end.ensures.value c.loop-at.at c.loop-at.sum c.loop-at.invariant c.loop-at-test.false;
-      bound = omega (arith, c.loop-at.invariant.small, c.facilities-at-end.ensures.few);
-    }
+    let sum = c.sum_over.ensures (own_part c.args.at.price.cents) 93750000000000000 (λ x n counted. search rules) in
+    record { value = sum.0; bound = omega (arith, sum.1) }

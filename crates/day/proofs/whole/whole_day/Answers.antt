@@ -1,4 +1,4 @@
-use Rattle.std.proofs.Common.{◌≡◌, ℕ, List, length, replicate, IfErr, Ok, Err, vec_items, Option, Result, sym, ap, ◌∙◌, subst}
+use Rattle.std.proofs.Common.{◌≡◌, ℕ, List, length, replicate, IfErr, Ok, Err, vec_items, Option, Result, sym, ap, ◌∙◌, subst, rules}
 use Rattle.std.proofs.lemmas.Result.{IfOk-weaker}
 use Rattle.sheets.specs.declared.facility.Facility.{Facility}
 use Rattle.sheets.specs.declared.facility.Prices.{Prices}
@@ -18,10 +18,11 @@ refused_weaker (Err y) P Q f h = f y h
 pub returns : goal.returns
 returns g c =
     let view = g.L.Accounts.view in
-    let rows = c.clear.new.sheets in
+    let rows = c.fill.new.self in
     let m = length c.args.sheets.now in
-    let n : length rows ≡ m = c.clear.auto.sheets in
-    let p = blank_held c.blank-register.result rows (length rows) c.blank-register.ensures.facilities c.blank-register.ensures.prices (c.clear.ensures ∙ ap (λ k. replicate k blank_row) (sym n)) in
+    let n : length rows ≡ m = c.fill.ensures.len in
+    let cleared : rows ≡ replicate m blank_row = search rules in
+    let p = blank_held c.blank-register.result rows (length rows) c.blank-register.ensures.facilities c.blank-register.ensures.prices (cleared ∙ ap (λ k. replicate k blank_row) (sym n)) in
     let v = view c.args.ledger.now in
     let w = view c.run.new.ledger in
     let end = c.run.new.register in
@@ -36,5 +37,5 @@ returns g c =
       written = IfOk-weaker c.run.result (λ answers. Took (written (blank (length rows)) cs (vec_items answers))) (λ answers. Took (written (blank m) cs (vec_items answers)))
           (λ answers k. subst (λ (i : ℕ). Took (written (blank i) cs (vec_items answers))) n k)
           (c.run.ensures.written p);
-      unmade = refused_weaker c.run.result _ _ (λ y k. (k.1 ∙ c.clear.ensures, k.2)) c.run.ensures.untouched;
+      unmade = refused_weaker c.run.result _ _ (λ y k. (k.1 ∙ cleared, k.2)) c.run.ensures.untouched;
     }

@@ -1,7 +1,8 @@
+use Rattle.std.proofs.Common.{◌≡◌, ◌+◌}
 use Rattle.std.specs.Option.{option_map}
-use Rattle.day_text.specs.Words.{words_left}
-use Rattle.day_text.proofs.Counting.{Counting}
+use Rattle.day_text.specs.Words.{counted}
 use Rattle.day_text.proofs.pairs.count_pairs.Given as goal
 
+-- n pairs are passed
 abbrev pub invariant-loop-n : goal.invariant-loop-n
-invariant-loop-n l = Counting (words_left (option_map (λ x. x.now) l.left)) l.n (words_left (option_map (λ x. x.now) l.rest))
+invariant-loop-n l = option_map (λ k. l.n + k) (counted l.words) ≡ counted l.fn.words

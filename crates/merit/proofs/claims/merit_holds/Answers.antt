@@ -1,4 +1,4 @@
-use Rattle.merit.specs.Ranking.{merit_order_stands}
+use Rattle.merit.proofs.Ranking.{merit_order_stands}
 use Rattle.merit.proofs.Margins.{marginal_first}
 use Rattle.merit.proofs.Least.{least_price, reached_exactly, marginal_price, priced_exactly}
 use Rattle.merit.proofs.Counting.{each_pair_once}

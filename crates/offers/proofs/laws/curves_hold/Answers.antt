@@ -1,3 +1,4 @@
+use Rattle.std.proofs.Common.{rules}
 use Rattle.offers.proofs.Claims.{curve_in_form, same_offer, one_curve, splitting, emptying, reordering, own_curve, same_pairs_equal}
 use Rattle.offers.proofs.laws.curves_hold.Goals as goal
 
@@ -12,4 +13,6 @@ returns c =
       order = reordering;
       own = own_curve;
       same = same_pairs_equal;
+      equal_pairs = λ p q. search rules;
+      equal_submissions = λ s t. search rules;
     }

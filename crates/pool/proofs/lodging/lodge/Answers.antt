@@ -11,7 +11,7 @@ use Rattle.sheets.specs.Held.{known}
 use Rattle.sheets.specs.Changes.{comes, registered, submission_fits, takes_submission}
 use Rattle.sheets.proofs.Lists.{all_at}
 use Rattle.pool.specs.Day.{lodge_figures}
-use Rattle.pool.proofs.Passing.{unless_pass, figures_pass, not_both}
+use Rattle.pool.proofs.Passing.{unless_pass, figures_pass, becomes}
 use Rattle.pool.proofs.Laying.{pairs_total, submitted_sound}
 use Rattle.pool.proofs.lodging.lodge.Goals as goal
 
@@ -24,8 +24,8 @@ submission_of-requires c =
     let pairs = and_second (ramp_fits c.args.ramp_down) _ (and_second (ramp_fits c.args.ramp_up) _ h) in
     record { few = few; small = omega (arith, pairs_total z ps pairs) }
 
-pub unreachable-requires : goal.unreachable-requires
-unreachable-requires c =
+pub unwrap-sheet-requires : goal.unwrap-sheet-requires
+unwrap-sheet-requires c =
     let g = c.args.register.now in
     let z = c.in_ok-prices.prices in
     let i = c.in_ok-place.place in
@@ -47,4 +47,4 @@ unreachable-requires c =
     let came : comes sheet.row event.Lodge ≡ true = ap (λ r. comes r event.Lodge) s.1.1.0 ∙ s.1.0 in
     let taken : takes_submission g sheet.row i t ≡ true = and_both (comes sheet.row event.Lodge) _ came (and_both (registered g i) _ (grind (arith, nat_tests)) of) in
     let same : takes_submission sheet.register.now sheet.row i t ≡ true = ap (λ (x : Register). takes_submission x sheet.row i t) s.1.1.1 ∙ taken in
-    not_both _ same c.in_default.ensures
+    becomes _ _ _ c.with_submission.result c.with_submission.ensures same

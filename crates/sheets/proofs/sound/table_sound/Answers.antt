@@ -1,14 +1,15 @@
-use Rattle.std.proofs.Common.{sym}
-use Rattle.sheets.specs.Sheets.{figures_sound}
-use Rattle.sheets.proofs.Lists.{all2_again, all2_fails, all2_ends}
-use Rattle.sheets.specs.Sheets.{no_facility, no_figures}
+use Rattle.std.proofs.Common.{◌≡◌, true, false, ◌∙◌, rules}
+use Rattle.std.specs.List.{zip}
+use Rattle.std.proofs.lemmas.Iterator.{cases_from_all, YieldsList-from_slice, YieldsList-from_zip}
+use Rattle.sheets.specs.Sheets.{figures_sound, no_facility, no_figures}
+use Rattle.sheets.proofs.Lists.{all2_zip, all_by_cases}
 use Rattle.sheets.proofs.sound.table_sound.Goals as goal
 
-pub loop-i-preserved : goal.loop-i-preserved
-loop-i-preserved c = all2_again (figures_sound c.args.prices) c.args.facilities.now c.args.table.now c.loop-i.i no_facility no_figures c.requires c.loop-i-test.true (sym c.if-not-figures_sound.ensures) c.loop-i.invariant
-
 pub returns : goal.returns
-returns c = all2_ends (figures_sound c.args.prices) c.args.facilities.now c.args.table.now c.loop-i.i c.loop-i-test.false c.loop-i.invariant
-
-pub returns-then-not-figures_sound : goal.returns-then-not-figures_sound
-returns-then-not-figures_sound c = all2_fails (figures_sound c.args.prices) c.args.facilities.now c.args.table.now c.loop-i.i no_facility no_figures c.requires c.loop-i-test.true (sym c.if-not-figures_sound.ensures) c.loop-i.invariant
+returns c =
+    let test = figures_sound c.args.prices in
+    let fs = c.args.facilities.now in
+    let xs = c.args.table.now in
+    let cases = cases_from_all c.all.new.self _ c.all.result (λ q. test q.0 q.1 ≡ true) (λ q. test q.0 q.1 ≡ false) c.all.ensures.ran (YieldsList-from_zip (YieldsList-from_slice fs (search rules)) (YieldsList-from_slice xs (search rules))) (λ x q k. search rules) (λ x q k. search rules) in
+    all_by_cases (λ q. test q.0 q.1) (zip fs xs) (no_facility, no_figures) c.all.result cases
+    ∙ all2_zip test fs xs c.requires

@@ -1,5 +1,4 @@
 use Rattle.std.proofs.Common.{◌^◌, ◌<◌, w32, SFits, rules}
-use Rattle.text.specs.Drafts.{held}
 use Rattle.submission_text.proofs.Writing.{paired, length_pair}
 use Rattle.submission_text.proofs.write.push_pair.Goals as goal
 
@@ -9,7 +8,7 @@ returns c =
     let f : SFits w32 p.price = search rules in
     let k : p.kw < 2 ^ 32 = search rules in
     record {
-      after = paired (held c.args.draft.now) (held c.push.new.self) (held c.push_signed.new.self) (held c.push-2.new.self) (held c.push_natural.new.self) (held c.push-3.new.self)
+      after = paired c.args.draft.now c.push.new.self c.push_signed.new.self c.push-2.new.self c.push_natural.new.self c.push-3.new.self
           p c.from.result f c.from.ensures c.push.ensures c.push_signed.ensures c.push-2.ensures c.push_natural.ensures c.push-3.ensures;
       short = length_pair p f k;
     }

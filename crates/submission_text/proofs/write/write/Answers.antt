@@ -5,7 +5,7 @@ use Rattle.submission_text.proofs.write.write.Goals as goal
 
 pub returns : goal.returns
 returns c =
-    let e = c.bytes.ensures ∙ c.written.ensures in
+    let e = c.bytes.ensures.value ∙ c.written.ensures in
     record {
       value = c.place.ensures.value ∙ ap (λ t. placed_length t c.args.out.now) e;
       after = c.place.ensures.after ∙ ap (λ t. placed_text t c.args.out.now) e;

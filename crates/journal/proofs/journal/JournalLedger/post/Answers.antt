@@ -1,5 +1,6 @@
-use Rattle.std.proofs.Common.{◌≡◌, ◌<◌, length, get_or, pos, ◌+ℤ◌, None, sym, refl, w64, SFits, rules}
+use Rattle.std.proofs.Common.{◌≡◌, ◌<◌, length, get_or, pos, ◌+ℤ◌, None, refl, w64, SFits, rules}
 use Rattle.std.proofs.lemmas.Int.{to_z-of_z}
+use Rattle.std.proofs.lemmas.Result.{err_from_is_err_and}
 use Rattle.ledger.specs.Posting.{refusal}
 use Rattle.journal.specs.Extending.{extended_none}
 use Rattle.journal.specs.Lines.{journal_view}
@@ -17,7 +18,7 @@ invariant_of-self c =
     let inside : a < length zs = search rules in
     let f : SFits w64 (get_or zs a (pos 0)) = search rules in
     let k : SFits w64 x = c.ranges.cents in
-    let ok : refusal (journal_view ls u) a x ≡ None = sym (simp to_z-of_z at c.in_default.ensures) in
+    let ok : refusal (journal_view ls u) a x ≡ None = simp to_z-of_z at c.in_ok-check_post.ensures in
     let more = one_more ls u zs a x s.within s.slots s.running s.spans ok in
     let m : SFits w64 (get_or zs a (pos 0) +ℤ x) = more.fits in
     simp to_z-of_z (record { within = more.within; slots = more.slots; running = more.running; spans = more.spans })
@@ -33,7 +34,7 @@ returns c =
     let inside : a < length zs = search rules in
     let f : SFits w64 (get_or zs a (pos 0)) = search rules in
     let k : SFits w64 x = c.ranges.cents in
-    let ok : refusal (journal_view ls u) a x ≡ None = sym (simp to_z-of_z at c.in_default.ensures) in
+    let ok : refusal (journal_view ls u) a x ≡ None = simp to_z-of_z at c.in_ok-check_post.ensures in
     let more = one_more ls u zs a x s.within s.slots s.running s.spans ok in
     let m : SFits w64 (get_or zs a (pos 0) +ℤ x) = more.fits in
     record {
@@ -43,12 +44,8 @@ returns c =
       lender = refl;
     }
 
-pub returns-in-Some : goal.returns-in-Some
-returns-in-Some c =
+pub returns-in_err-check_post-clause-took : goal.returns-in_err-check_post-clause-took
+returns-in_err-check_post-clause-took c =
     let s = c.args.self.now in
-    record {
-      answered = search rules;
-      took = (extended_none s.lines.now s.used, refl);
-      written = search rules;
-      lender = refl;
-    }
+    let refused = err_from_is_err_and c.from_residual.result c.from_residual.ensures.1 in
+    rw refused.1 (extended_none s.lines.now s.used, refl)

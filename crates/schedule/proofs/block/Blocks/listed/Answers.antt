@@ -4,7 +4,6 @@ use Rattle.schedule.proofs.block.Blocks.listed.Goals as goal
 
 pub returns : goal.returns
 returns c =
-    let t = c.type_inv.self in
     let ts = c.args.self.now.taken in
     let l : length ts ≡ 8 = search rules in
     take_least c.args.self.now.count c.min-n.result ts (c.min-n.ensures ∙ ap (min c.args.self.now.count) (sym l))

@@ -1,4 +1,4 @@
-use Rattle.std.proofs.Common.{◌≡◌, ◌<◌, true, length, get_or, Some, Option, sym, ap, ◌∙◌, subst, arith, length-set}
+use Rattle.std.proofs.Common.{◌≡◌, ◌<◌, true, length, get_or, Some, Option, sym, ap, ◌∙◌, subst, length-set}
 use Rattle.sheets.specs.declared.facility.Prices.{Prices}
 use Rattle.sheets.specs.declared.row.Row.{Row}
 use Rattle.sheets.specs.Held.{known}
@@ -14,10 +14,11 @@ invariant_of-result c =
     let t = c.args.submission in
     let z = c.in_ok-prices.prices in
     let priced : Some z ≡ g.prices = c.in_ok-prices.ensures in
-    let fs = c.facilities-facilities.ensures.value in
+    let fs = c.facilities.ensures.value in
+    let there = c.in_ok-facility.ensures.lookup.3 in
     let Sound : Row → Option Prices → Type 0 = λ r o. sheet_sound (known g) o r ≡ true in
-    let within : i < length (known g) = omega (arith, ap length fs) in
-    let fits : submission_sound z (get_or (known g) i no_facility) t ≡ true = ap (λ xs. submission_sound z (get_or xs i no_facility) t) (sym fs) ∙ sym c.if-not-submission_sound.ensures in
+    let within : i < length (known g) = subst (λ xs. i < length xs) fs there.0 in
+    let fits : submission_sound z (get_or (known g) i no_facility) t ≡ true = ap (λ f. submission_sound z f t) (ap (λ xs. get_or xs i no_facility) (sym fs) ∙ sym (there.1 no_facility)) ∙ sym c.if-not-submission_sound.ensures in
     let before : Sound s.row (Some z) = subst (Sound s.row) (sym priced) s.sound in
     record {
       sound = subst (Sound (with_submission s.row i t)) priced (sheet_lodge (known g) z s.row i t within (sym c.if-not-comes.ensures) fits before);

@@ -1,4 +1,4 @@
-use Rattle.std.proofs.Common.{◌≡◌, ◌-◌, ◌<◌, ◌≤◌, length, get_or, pos, ◌+ℤ◌, None, sym, arith, w64, SFits, rules}
+use Rattle.std.proofs.Common.{◌≡◌, ◌-◌, ◌<◌, ◌≤◌, length, get_or, pos, ◌+ℤ◌, None, arith, w64, SFits, rules}
 use Rattle.std.proofs.lemmas.Int.{to_z-of_z}
 use Rattle.ledger.specs.Posting.{refusal}
 use Rattle.ledger.proofs.Tested.{taken_because, taken_in_span, span_fits}
@@ -16,7 +16,7 @@ invariant_of-self c =
     let inside : a < length zs = search rules in
     let f : SFits w64 (get_or zs a (pos 0)) = search rules in
     let k : SFits w64 x = c.ranges.cents in
-    let ok : refusal (small_view zs s.left) a x ≡ None = sym (simp to_z-of_z at c.in_default.ensures) in
+    let ok : refusal (small_view zs s.left) a x ≡ None = simp to_z-of_z at c.in_ok-check_post.ensures in
     let span = taken_in_span (small_view zs s.left) a x (small_sound zs s.left s.spans s.few) ok in
     let m : SFits w64 (get_or zs a (pos 0) +ℤ x) = span_fits (get_or zs a (pos 0) +ℤ x) span in
     let few : s.left - 1 ≤ 65535 = omega (arith, s.few) in
@@ -31,7 +31,7 @@ returns c =
     let inside : a < length zs = search rules in
     let f : SFits w64 (get_or zs a (pos 0)) = search rules in
     let k : SFits w64 x = c.ranges.cents in
-    let ok : refusal (small_view zs s.left) a x ≡ None = sym (simp to_z-of_z at c.in_default.ensures) in
+    let ok : refusal (small_view zs s.left) a x ≡ None = simp to_z-of_z at c.in_ok-check_post.ensures in
     let span = taken_in_span (small_view zs s.left) a x (small_sound zs s.left s.spans s.few) ok in
     let m : SFits w64 (get_or zs a (pos 0) +ℤ x) = span_fits (get_or zs a (pos 0) +ℤ x) span in
     record { answered = (ok, simp to_z-of_z (small_posted zs s.left a x inside (taken_because (small_view zs s.left) a x ok).1)); took = tt }
