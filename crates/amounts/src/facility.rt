@@ -54,6 +54,8 @@ fn sum_over<F: Fn(Standing) -> u64>(sheet: &Sheet, account: Account, count: F) -
     ensures { (e : Facility → Figures → ℕ) (most : ℕ) → Counts (F.post count) (λ standing. e standing.facility standing.figures) most → SumOver e most account.number sheet.now result }
 {
     let mut sum = 0;
+    // Kept: a `Standing` is made by what the sheet states of the place, and the sum fits by the number of facilities; a chain
+    // would need both told again of its closures.
     for (facility, figures) in sheet.facilities().iter().zip(sheet.figures()) {
         let standing = Standing {
             facility: *facility,

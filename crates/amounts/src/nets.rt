@@ -31,7 +31,7 @@ fn tally_up(at: AtPrice) -> Tally
     }; 12];
     let mut pool = 0;
     let mut total = 0;
-    // Kept: with `each` from `array::from_fn`, `-each.iter().map(|a| a.energy).sum::<i64>()` left open that the sums so far fit (`sum-requires-clause-fits`) and that the negation does (`overflow_sub`).
+    // Kept: an invariant of a loop over `zip(&mut each[1..])` cannot name `each`; and `-each.iter().map(|a| a.energy).sum::<i64>()` left `sum-requires-clause-fits` and `overflow_sub-result` open.
     for number in 1..12 {
         let amounts = at.amounts(Account {
             number: number as u32,

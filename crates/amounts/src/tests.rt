@@ -9,6 +9,7 @@ use sheets::row::{Figures, Row, State};
 use sheets::sheet::Sheet;
 use std::test::Fail;
 
+// Kept: a station and a pair in few words, as the tests of `merit` have them; they share no crate of tests.
 fn station(account: u32) -> Facility {
     Facility {
         account,

@@ -32,6 +32,7 @@ fn push_answer(draft: &mut Draft, answer: Answer)
     ensures after { draft.new ≡ kept (draft.old ++ answer_words answer) }
     ensures short { length (answer_words answer) ≤ 100 }
 {
+    // Kept: one arm a kind of answer, each its own text.
     match answer {
         Answer::Number(facility) => push_figure(draft, b"facility=", facility as u64),
         Answer::Opened => draft.push(b"opened"),
@@ -47,6 +48,7 @@ fn push_reason(draft: &mut Draft, reason: Option<Reason>)
     ensures after { draft.new ≡ kept (draft.old ++ reason_words reason) }
     ensures short { length (reason_words reason) ≤ 28 }
 {
+    // Kept: where there is none an empty piece is pushed, which tells that the draft keeps what it held.
     match reason {
         Some(reason) => push_figure(draft, b" reason=", reason.number() as u64),
         None => draft.push(b""),

@@ -16,7 +16,7 @@ pub struct Target {
 }
 
 // A lodge before its pairs.
-// Kept: `submission_text` has the same four figures in its `Head`; neither crate builds on the other, and `text` below both knows no offers.
+// Kept: `submission_text` has the same four figures in its `Head`; neither crate builds on the other, and `offers` below both knows no facilities or intervals.
 #[derive(Clone, Copy)]
 pub struct Offer {
     pub facility: u32,

@@ -45,6 +45,7 @@ fn fill(mut words: Words, out: &mut [Pair])
     }
 }
 
+// Kept: lent memory, so the count is answered and the front is the caller's to cut.
 // The words as pairs at the front of the memory, and how many; else it is as it was.
 pub fn read_pairs(words: Words, memory: &mut [Pair]) -> Option<usize>
     ensures value { result ≡ fitting (length memory.old) (counted words.entry) }

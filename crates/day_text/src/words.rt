@@ -84,13 +84,14 @@ impl<'a> Words<'a> {
     }
 
     // The same words, to be read once more.
-    // Kept: a copy by hand, since `clone` answers a `Result` for memory that may run out, and this copy takes none.
+    // Kept: no `Copy`, as std's iterators have none: words copied unseen would be read twice, and this says it.
     pub fn again(&self) -> Words<'a>
         ensures { result ≡ self.now }
     {
         Words { left: self.left }
     }
 
+    // Kept: that a word is passed over is told by each of the three readers, since the first clause tells it only where there is an answer.
     // Kept: a method of its own, since what is left counts as much as the word; `Iterator` would add laws over whole runs that no caller uses.
     pub fn next(&mut self) -> Option<&'a [u8]>
         ensures value { option_map (λ w. (w.now, self.new)) result ≡ next_word self.old }

@@ -22,7 +22,7 @@ pub fn all_figures(rt: &impl Print) -> io::Result<Tally> {
     Ok(tally)
 }
 
-// Kept: where to print and what was counted go together, but a struct of both would be borrowed whole while a figure is printed.
+// Kept: four private functions of a program pass the two on; a struct and its methods would take more lines than it saves.
 fn line(rt: &impl Print, tally: &mut Tally, what: &impl Display, figure: Figure) -> io::Result<()> {
     println!(rt; "{what}: {figure}")?;
     tally.count(figure.is_equal());

@@ -10,6 +10,7 @@ pub trait Worked: fmt::Display {
     fn figure(&self) -> Figure;
 }
 
+// Kept: each kind has a text and fields of its own; one function for all would take both from each.
 impl fmt::Display for Adjusting {
     fn fmt<W: fmt::Write>(&self, f: &mut fmt::Formatter<W>) -> fmt::Result {
         let price = self.price;

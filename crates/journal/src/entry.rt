@@ -9,6 +9,7 @@ use crate::line::Line;
 use ledger::accounts::Ledger;
 use ledger::row::{RowRefusal, post_row};
 
+// Kept: the memory is lent, so the count is answered and the front is the caller's to cut.
 // Posts each line in its order, to a journal that is new in this memory; a line that the journal refuses is passed over.
 // It answers how many were taken: they stand in front, oldest first, and behind them the memory is as it was.
 pub fn enter_all(memory: &mut [Line], posts: &[Line]) -> usize

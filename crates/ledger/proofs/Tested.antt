@@ -1,12 +1,12 @@
 -- A post's refusal, from what a ledger tells.
-use Rattle.std.proofs.Common.{◌≡◌, ℕ, Bool, true, false, cond, not, ◌||◌, eqb, ltb, ℤ, ◌+ℤ◌, Some, None, Option, sym, refl, arith, w64, SFits}
+use Rattle.std.proofs.Common.{◌≡◌, ℕ, Bool, true, false, cond, not, ◌||◌, eqb, ltb, ℤ, ◌+ℤ◌, Some, None, Ok, Err, Option, Result, is_ok, sym, refl, arith, w64, SFits}
 use lib.Signed.{lt_z}
 use Rattle.std.proofs.lemmas.Int.{ints}
 use Rattle.std.proofs.lemmas.Bool.{ltb-true}
 use Rattle.ledger.specs.declared.reason.Reason.{Reason}
 use Rattle.ledger.specs.declared.reason.Reason.TheVariants.{NoAccount, NoPlaces, OutOfBounds}
 use Rattle.ledger.specs.View.{View, InSpan, Sound, told}
-use Rattle.ledger.specs.Posting.{refusal, outside}
+use Rattle.ledger.specs.Posting.{refusal, outside, Answered}
 
 some_from : (t : Bool) (x z : ℤ) → Some z ≡ cond t (Some x) None → (t ≡ true) × (z ≡ x)
 some_from true x z e = (refl, cc)
@@ -60,3 +60,8 @@ span_fits z h = record { sfits = grind (arith, ints) }
 
 pub taken_or_refused : (o : Option Reason) (e : Reason) → o ≡ None → o ≡ Some e → ⊥
 taken_or_refused o e n s = let no : ◌≡◌ {A = ℕ} 0 1 = cc in omega arith
+
+-- a post that is not refused is taken
+pub post_taken : (v : View) (a : ℕ) (x : ℤ) (r : Result (Unit {0}) Reason) (w : View) → Answered v a x r w → refusal v a x ≡ None → is_ok r ≡ true
+post_taken v a x (Ok u) w h n = refl
+post_taken v a x (Err e) w h n = absurd (taken_or_refused _ e n h.0)

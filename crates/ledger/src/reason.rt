@@ -10,7 +10,7 @@ pub enum Reason {
 }
 
 impl Reason {
-    // Kept: the table gives each reason a number under this name; a `From` beside it would say the same twice.
+    // Kept: `reason.number()` names the table's number; `u32::from(reason)` would not say which number.
     pub fn number(self) -> u32
         ensures { result ≡ reason_number self }
     {

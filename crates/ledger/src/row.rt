@@ -19,6 +19,7 @@ pub struct RowRefusal {
 fn check_bounds(balance: i64, cents: i64, lowest: i64, highest: i64) -> Result<(), Reason>
     ensures { Checked (if int_lt (balance +ℤ cents) lowest || int_lt highest (balance +ℤ cents) then Some OutOfBounds else None) result }
 {
+    // Kept: the sum and its bounds are one pattern; as a chain it takes three steps.
     match balance.checked_add(cents) {
         Some(sum) if lowest <= sum && sum <= highest => Ok(()),
         _ => Err(Reason::OutOfBounds),
@@ -29,6 +30,7 @@ fn check_bounds(balance: i64, cents: i64, lowest: i64, highest: i64) -> Result<(
 pub fn check_post<L: Accounts>(ledger: &L, account: usize, cents: i64) -> Result<(), Reason>
     ensures { Checked (refusal (L.view ledger.now) account cents) result }
 {
+    // Kept: one answer for all three; each by `ok_or` would say it three times.
     let (Some(balance), Some(lowest), Some(highest)) = (
         ledger.balance(account),
         ledger.lowest(account),
@@ -95,14 +97,12 @@ fn post_each<L: Ledger>(ledger: &mut L, amounts: &[i64; 12])
     // Kept: a loop over the twelve, and not a chain, as each turn posts to the ledger that the last one left.
     for (account, cents) in amounts.iter().enumerate() {
         if *cents != 0 {
-            // Kept: an `unwrap` of the unit would read no plainer.
-            let Ok(()) = ledger.post(account, *cents) else {
-                unreachable()
-            };
+            ledger.post(account, *cents).unwrap();
         }
     }
 }
 
+// Kept: the amounts are posted to any ledger; a struct would lend both for one call.
 // Posts the row, and answers how many posts that took. Amounts that sum to zero leave the sum of all balances as it was.
 pub fn post_row<L: Ledger>(ledger: &mut L, amounts: &[i64; 12]) -> Result<usize, RowRefusal>
     ensures answered { RowAnswered (L.view ledger.old) amounts.now result (L.view ledger.new) }

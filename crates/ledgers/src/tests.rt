@@ -10,6 +10,7 @@ use ledger::row::{RowRefusal, check_row, post_row};
 
 const NETS: [i64; 12] = [0, 50_667, 33_026, -83_693, 0, 0, 0, 0, 0, 0, 0, 0];
 
+// Kept: a line that the tests of the journal have too; they share no crate of tests.
 fn refused(reason: Reason, place: usize) -> Result<usize, RowRefusal> {
     Err(RowRefusal { reason, place })
 }

@@ -10,6 +10,7 @@ use sheets::row::{Figures, Row};
 use sheets::sheet::Sheet;
 use std::test::Fail;
 
+// Kept: a station and a pair in few words, as the tests of `amounts` have them; they share no crate of tests.
 fn station(loss_factor: u32, capacity: u32) -> Facility {
     Facility {
         account: 1,

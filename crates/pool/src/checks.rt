@@ -56,6 +56,7 @@ pub fn known_account(account: u32) -> Result<(), Refusal>
 pub fn facility_place(register: &Register, facility: u32) -> Result<usize, Refusal>
     ensures { MatchResult result (λ k. (facility_known (known register.now) facility ≡ Ok tt) × ((k ≡ facility - 1) × (k < length (known register.now)))) (λ f. facility_known (known register.now) facility ≡ Err f) }
 {
+    // Kept: each end is a test of its own, as the table has it; a range would need the number as a place first.
     let known = facility >= 1 && facility as usize <= register.facilities().len();
     unless(known, Refusal::Facility(facility))?;
     Ok(facility as usize - 1)
@@ -65,6 +66,7 @@ pub fn facility_place(register: &Register, facility: u32) -> Result<usize, Refus
 pub fn sheet_place(rows: &[Row], interval: u32) -> Result<usize, Refusal>
     ensures { MatchResult result (λ i. (interval_known rows.now interval ≡ Ok tt) × ((i ≡ interval - 1) × (i < length rows.now))) (λ f. interval_known rows.now interval ≡ Err f) }
 {
+    // Kept: the ends are tests of their own, as the table has them.
     let known = interval >= 1 && interval as usize <= rows.len() && interval <= 48;
     unless(known, Refusal::Interval(interval))?;
     Ok(interval as usize - 1)

@@ -37,6 +37,7 @@ fn offers_reach(sheet: &Sheet, interval: u32) -> Result<(), Refusal>
     unless(reached, Refusal::Short(interval))
 }
 
+// Kept: the row by its place, as in `pool::figures`: after `get_mut` a proof knows the length alone.
 // Closes a sheet. It answers the balancing price and the marginal facility; the working rungs then hold the merit order.
 pub fn close(
     register: &Register,

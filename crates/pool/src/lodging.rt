@@ -14,6 +14,7 @@ use refusals::Refusal;
 use sheets::register::Register;
 use sheets::row::{Event, Row};
 
+// Kept: the row by its place, as in `pool::figures`: after `get_mut` a proof knows the length alone.
 // Keeps a facility's submission: ramps, and the curve of its pairs.
 pub fn lodge(
     register: &Register,

@@ -4,7 +4,7 @@ ghost use Rattle.schedule.specs.Stations.{energy_out};
 
 // Kept: an Option round the first two would only take the third case its name.
 // The energy that counts, in kWmin: above the upper schedule, below the lower one, or none.
-#[derive(Clone, Copy)]
+#[derive(Clone, Copy, PartialEq, Eq, Debug)]
 pub enum OutOfMerit {
     Upward(u64),
     Downward(u64),

@@ -37,7 +37,7 @@ fn worked(start: u32, reading: u32) -> Option<Station> {
 fn upward(rt: HostRuntime) -> Result<(), Fail> {
     let station = worked(10_000, 950_000).ok_or("no station")?;
     let price = BalancingPrice::try_from(4_000)?;
-    assert!(rt; matches!(station.out_of_merit(price), OutOfMerit::Upward(370_000)));
+    assert_eq!(rt; station.out_of_merit(price), OutOfMerit::Upward(370_000));
     assert_eq!(rt; station.blocks(price).rest, 44_000);
     assert_eq!(rt; cents_of(station.part(price)), 10_867);
     Ok(())
@@ -47,7 +47,7 @@ fn upward(rt: HostRuntime) -> Result<(), Fail> {
 fn downward(rt: HostRuntime) -> Result<(), Fail> {
     let station = worked(10_000, 500_000).ok_or("no station")?;
     let price = BalancingPrice::try_from(7_000)?;
-    assert!(rt; matches!(station.out_of_merit(price), OutOfMerit::Downward(406_000)));
+    assert_eq!(rt; station.out_of_merit(price), OutOfMerit::Downward(406_000));
     assert_eq!(rt; station.blocks(price).rest, 0);
     assert_eq!(rt; cents_of(station.part(price)), 10_500);
     Ok(())

@@ -37,7 +37,7 @@ fn plain_call<'a>(line: DayLine) -> Option<Call<'a>> {
     }
 }
 
-// Kept: a line has its pairs by number and a call by reference, so that each line is taken apart and made a call.
+// Kept: a line owns nothing lent and can be kept, a call lends its pairs; one type for both would be generic over the pairs at each of ten cases.
 // The call that a line makes. The pairs of a lodge stand at the front of the memory, which always has them.
 pub fn call_of<'a>(line: DayLine, memory: &'a [Pair]) -> Option<Call<'a>> {
     match line {

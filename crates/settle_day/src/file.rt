@@ -14,7 +14,7 @@ use sheets::row::Row;
 use std::alloc::{AllocError, Global};
 
 // How far the file has come.
-#[derive(Clone, Copy)]
+#[derive(Clone, Copy, PartialEq, Eq, Debug)]
 enum Stage {
     // No line but blank ones.
     Begun,
@@ -59,7 +59,7 @@ impl Day {
 
     // A line that is not a call; no `sheets` may come after it.
     fn not_a_call(&mut self) -> Said {
-        if let Stage::Begun = self.stage {
+        if self.stage == Stage::Begun {
             self.stage = Stage::Limits;
         }
         Said::NotACall

@@ -13,11 +13,10 @@ use std::io::{BufWriter, Read, Write};
 // All of standard input. Where it cannot be read, the error says how far it could.
 fn read_input(rt: &HostRuntime) -> anyhow::Result<Vec<u8>> {
     let mut text = Vec::new(rt.alloc());
-    // Kept: the error says how far the text came, which a closure cannot read while the text is filled.
-    if let Err(error) = rt.stdin().read_to_end(&mut text) {
+    rt.stdin().read_to_end(&mut text).map_err(|error| {
         let line = number_of_lines(text.as_slice());
-        return Err(anyhow::anyhow!("cannot read line {line} of the day file: {error}"));
-    }
+        anyhow::anyhow!("cannot read line {line} of the day file: {error}")
+    })?;
     Ok(text)
 }
 

@@ -13,6 +13,7 @@ use refusals::Refusal;
 use sheets::register::Register;
 use sheets::row::{Event, Row};
 
+// Kept: the row by its place, as in `pool::figures`: after `get_mut` a proof knows the length alone.
 // Corrects a reading of a settled sheet: what it changes of the nets is posted. It answers how many posts that took.
 pub fn adjust<L: Ledger>(
     register: &Register,

@@ -40,6 +40,7 @@ fn has_load(sheet: &Sheet, interval: u32) -> Result<(), Refusal>
     unless(sheet.has_load(), Refusal::NoLoad(interval))
 }
 
+// Kept: the row by its place, as in `pool::figures`: after `get_mut` a proof knows the length alone.
 // Settles a closed sheet: its nets are posted. It answers how many posts that took.
 pub fn settle<L: Ledger>(
     register: &Register,

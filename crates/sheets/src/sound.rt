@@ -111,7 +111,7 @@ pub fn any_load(positions: &[Position]) -> bool
 }
 
 // The kW that all facilities of a table offer.
-// Kept: at most twelve facilities are known, which a table's length tells; a type for a short slice would state the bound at as many places.
+// Kept: `Sheet::figures` gives a plain slice; a type for at most twelve would be taken apart in these three bodies.
 pub fn offers_of(table: &[Figures]) -> u64
     requires { length table.now ≤ 12 }
     ensures { result ≡ offers table.now }

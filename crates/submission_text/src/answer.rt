@@ -9,6 +9,7 @@ use text::draft::Draft;
 use text::refusal::Refusal;
 
 // A refusal in two lines.
+// Kept: a draft, as the written form is.
 pub fn refused(refusal: Refusal) -> Draft
     ensures { result ≡ refusal_text refusal }
 {

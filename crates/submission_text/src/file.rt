@@ -2,7 +2,7 @@
 use offers::submission::Submission;
 
 // The four leading figures. Ramps are in kW per minute.
-// Kept: `day_text` has the same four in its `Offer`; neither crate builds on the other, and `text` below both knows no offers.
+// Kept: `day_text` has the same four in its `Offer`; neither crate builds on the other, and `offers` below both knows no facilities or intervals.
 #[derive(Clone, Copy)]
 pub struct Head {
     pub facility: u32,

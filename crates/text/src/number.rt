@@ -56,6 +56,7 @@ fn read_natural(s: &[u8], low: u64, high: u64) -> Result<u64, NumberFault>
     ensures { result ≡ natural_of low high s.now }
 {
     let n = unsigned(s).ok_or(NumberFault::Form)?;
+    // Kept: one guard for both ways out of the span; by `filter` in its place the signed form stayed unproved (`returns`).
     match u64::try_from(n) {
         Ok(n) if (low..=high).contains(&n) => Ok(n),
         _ => Err(NumberFault::Span),
@@ -76,12 +77,14 @@ fn read_signed(s: &[u8], low: i64, high: i64) -> Result<i64, NumberFault>
     ensures { result ≡ signed_of low high s.now }
 {
     let z = integer(s).ok_or(NumberFault::Form)?;
+    // Kept: as of `read_natural`.
     match i64::try_from(z) {
         Ok(z) if (low..=high).contains(&z) => Ok(z),
         _ => Err(NumberFault::Span),
     }
 }
 
+// Kept: two ends, since the clauses speak of each; a range would be taken apart in every one of them.
 // The number without a sign that the bytes are, if it lies from low to high.
 // Kept: apart from `read_natural`, as `signed` from `read_signed`: span and form are drawn once from the value told there, and not at
 // each of its three exits.

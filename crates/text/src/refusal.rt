@@ -40,6 +40,7 @@ impl Refusal {
 }
 
 impl TextTooShort {
+    // Kept: as of `Refusal`.
     pub fn number(self) -> u32
         ensures { result ≡ refusal_number short_memory }
     {

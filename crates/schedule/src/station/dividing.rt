@@ -10,6 +10,7 @@ use crate::direction::OutOfMerit;
 use crate::span::BalancingPrice;
 
 impl Station {
+    // Kept: lent memory, so the count is answered and the front is the caller's to cut.
     // Lays the blocks of all its pairs in front, in the curve's order. It answers how many they are.
     fn lay(&self, slots: &mut [Block]) -> usize
         requires { length slots.old ≡ 8 }
@@ -43,6 +44,7 @@ impl Station {
     }
 
     // Its own part of its account's compensation, unrounded.
+    // Kept: the bound goes with the figure wherever it is handed on; a type for it would be taken apart for its number.
     pub fn part(&self, price: BalancingPrice) -> u64
         ensures value { result ≡ stations.part (operation self.now) price.cents }
         ensures bound { result ≤ 93750000000000000 }

@@ -50,7 +50,7 @@ impl Register {
     }
 
     // Opens the day. False, with nothing changed, where it is open, or the prices are outside their span or out of order.
-    // Kept: a bool, as of `HashSet::insert`; the caller's own table tells the refusals apart.
+    // Kept: the answer is whether it was opened; a Result would carry an error with nothing in it.
     pub fn open(&mut self, prices: Prices) -> bool
         ensures { Opened self.old prices result self.new }
     {

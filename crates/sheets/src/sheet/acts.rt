@@ -30,12 +30,10 @@ impl<'a> Sheet<'a> {
     pub fn checked(register: &'a Register, row: Row) -> Option<Sheet<'a>>
         ensures { Becomes (sheet_sound (known register.now) register.now.prices row) register.now row result }
     {
-        // Kept: a sheet may be made only once its row is known to be sound, and the value of a `then_some` comes before its test.
-        if row_sound(register, &row) {
-            Some(Sheet { register, row })
-        } else {
-            None
+        if !row_sound(register, &row) {
+            return None;
         }
+        Some(Sheet { register, row })
     }
 
     pub fn row(&self) -> Row

@@ -57,6 +57,7 @@ impl Draft {
     }
 }
 
+// Kept: lent memory, so the length is answered and the front is the caller's to cut.
 // The text at the front of the caller's memory, and its length. Refused, it leaves the memory as it was.
 pub fn place(text: &[u8], out: &mut [u8]) -> Result<usize, TextTooShort>
     ensures value { result ≡ placed_length text.now out.old }

@@ -1,17 +1,17 @@
 use Rattle.std.proofs.Common.{◌≡◌, ◌<◌, ◌≤◌, true, length, get_or, take, pos, sym, ap, subst, arith, take_all, w64, SFits, rules}
 use Rattle.std.proofs.lemmas.Int.{to_z-of_z}
 use Rattle.ledger.specs.Rows.{non_zero, posts, amount, Moved, row_posts}
-use Rattle.ledger.proofs.Tested.{taken_or_refused}
+use Rattle.ledger.proofs.Tested.{post_taken}
 use Rattle.ledger.proofs.Rows.{zero_not_posted, zero_by_bits, posted_by_bits, account_there, row_posts_taken, row_posts_skipped}
 use Rattle.ledger.proofs.Moves.{up_to, up_to_all, moved_none, moved_skip, moved_post, moved_as, still_taken}
 use Rattle.ledger.proofs.row.post_each.Goals as goal
-use Rattle.ledger.proofs.row.post_each.Goals.{then-cents-ne0+in-Ok, else-cents-ne0}
+use Rattle.ledger.proofs.row.post_each.Goals.{then-cents-ne0, else-cents-ne0}
 
 pub loop-account-init : goal.loop-account-init
 loop-account-init g c = (g.L.Ledger.none c.args.ledger.now, moved_none (g.L.Accounts.view c.args.ledger.now) c.args.amounts.now)
 
-pub unreachable-requires : goal.unreachable-requires
-unreachable-requires g c =
+pub unwrap-requires : goal.unwrap-requires
+unwrap-requires g c =
     let v = g.L.Accounts.view c.args.ledger.now in
     let m = g.L.Accounts.view c.loop-account.ledger in
     let xs = c.args.amounts.now in
@@ -19,8 +19,7 @@ unreachable-requires g c =
     let inside : c.loop-account.account < length c.args.amounts.now = omega arith in
     let f : SFits w64 (get_or c.args.amounts.now c.loop-account.account (pos 0)) = search rules in
     let some : non_zero (amount xs i) ≡ true = posted_by_bits (amount xs i) c.if-cents-ne0.true in
-    let refused = (simp to_z-of_z at c.in_default.ensures.answered).0 in
-    taken_or_refused _ c.in_default.field-0 (still_taken v m xs i c.requires inside some c.loop-account.invariant.1) refused
+    post_taken m i (amount xs i) c.post.result _ (simp to_z-of_z at c.post.ensures.answered) (still_taken v m xs i c.requires inside some c.loop-account.invariant.1)
 
 pub loop-account-preserved : goal.loop-account-preserved
 loop-account-preserved g c =
@@ -31,14 +30,14 @@ loop-account-preserved g c =
     let inside : c.loop-account.account < length c.args.amounts.now = omega arith in
     let f : SFits w64 (get_or c.args.amounts.now c.loop-account.account (pos 0)) = search rules in
     elim c.if-cents-ne0.branch [
-      | then-cents-ne0+in-Ok w ↦
+      | then-cents-ne0 w ↦
           let some : non_zero (amount xs i) ≡ true = posted_by_bits (amount xs i) w.if-cents-ne0.true in
           let here = account_there v xs c.requires i inside some in
           let h = w.ledger-is in
           let next = w.post.new.self in
-          let one = g.L.Ledger.more c.args.ledger.now c.loop-account.ledger next (row_posts 0 (take i xs)) _ c.loop-account.invariant.0 (simp to_z-of_z at w.in-Ok.ensures.took) in
+          let one = g.L.Ledger.more c.args.ledger.now c.loop-account.ledger next (row_posts 0 (take i xs)) _ c.loop-account.invariant.0 (simp to_z-of_z at (rw w.unwrap.ensures at w.post.ensures).took) in
           let took = subst (λ ps. g.L.Ledger.took c.args.ledger.now ps next) (sym (row_posts_taken xs i inside some)) one in
-          rw h (took, moved_post v m xs i inside c.loop-account.invariant.1 (g.L.Accounts.view w.post.new.self) some here (simp to_z-of_z at w.in-Ok.ensures.answered).1)
+          rw h (took, moved_post v m xs i inside c.loop-account.invariant.1 (g.L.Accounts.view w.post.new.self) some here (simp to_z-of_z at (rw w.unwrap.ensures at w.post.ensures).answered).1)
       | else-cents-ne0 w ↦ rw w.ledger-is (subst (λ ps. g.L.Ledger.took c.args.ledger.now ps c.loop-account.ledger) (sym (row_posts_skipped xs i inside (zero_not_posted (amount xs i) (zero_by_bits (amount xs i) f w.if-cents-ne0.false)))) c.loop-account.invariant.0, moved_skip v m xs i inside c.loop-account.invariant.1 (zero_by_bits (amount xs i) f w.if-cents-ne0.false))
     ]
 
