@@ -1,5 +1,5 @@
 -- A small ledger as seen: three accounts, bounds at the ends of the span, places that run out.
-use Rattle.std.proofs.Common.{arith}
+use Rattle.std.proofs.Common.{lit≤}
 use Rattle.std.specs.Prelude.{ℕ, ◌≤◌, List, ℤ, pos, neg_ℤ, slice_index_or}
 use Rattle.std.specs.Int.Signed.{le_z_yes}
 use Rattle.ledger.specs.View.{View, most, Sound}
@@ -16,8 +16,8 @@ small_view zs n = record {
 
 pub small_sound : (zs : List ℤ) (n : ℕ) → AllInSpan zs → n ≤ 65535 → Sound (small_view zs n)
 small_sound zs n h few = record {
-  some = omega arith;
-  few = omega arith;
+  some = lit≤ tt;
+  few = lit≤ tt;
   room = few;
   balances = λ a _. h a;
   lows = λ _ _. (le_z_yes tt, le_z_yes tt);

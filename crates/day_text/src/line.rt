@@ -1,5 +1,6 @@
 // What a line of a day file says.
 
+// Kept: `NotACall` is one answer among fourteen; an Option round the others would move that case out and every caller would match twice.
 #[derive(Clone, Copy, PartialEq, Eq, Debug)]
 pub enum DayLine {
     // Empty, or a comment.
