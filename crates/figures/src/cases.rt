@@ -1,5 +1,7 @@
 // What is worked out, and what it should come to.
+use offers::curve::Curve;
 use offers::pair::Pair;
+use offers::submission::Submission;
 use schedule::ramp::Ramp;
 
 // A price in cents per MWh, a loss factor, and the adjusted price; nothing where the loss factor is out of its span.
@@ -158,6 +160,17 @@ pub struct Setting {
     pub pairs: &'static [Pair],
 }
 
+impl Setting {
+    // Nothing where the pairs make no curve.
+    pub fn submission(&self) -> Option<Submission> {
+        Some(Submission {
+            ramp_up: self.ramp.up,
+            ramp_down: self.ramp.down,
+            curve: Curve::of(self.pairs)?,
+        })
+    }
+}
+
 const WORKED_CURVE: [Pair; 2] = [
     Pair {
         price: 3_200,
@@ -235,7 +248,7 @@ const EIGHT_PAIRS: [Pair; 8] = [
 ];
 
 // The worked station.
-const WORKED: Setting = Setting {
+pub const WORKED: Setting = Setting {
     factor: 10_000,
     tolerance: 10_000,
     ramp: Ramp {
@@ -753,5 +766,58 @@ pub const LEVIES: [Levying; 11] = [
         loads: NO_LOADS,
         account: 1,
         levy: None,
+    },
+];
+
+// What the worked station metered on a sheet of two stations, and the nets of accounts 0 to 3; those of accounts 4 to 11 are 0.
+pub struct Metering {
+    pub reading: u32,
+    pub nets: [i64; 4],
+}
+
+const ONE_PAIR: [Pair; 1] = [Pair {
+    price: 4_000,
+    kw: 20_000,
+}];
+
+// The other station of the sheet.
+pub const OTHER: Setting = Setting {
+    factor: 10_000,
+    tolerance: 10_000,
+    ramp: Ramp {
+        start: 20_000,
+        up: 1_000,
+        down: 1_000,
+    },
+    pairs: &ONE_PAIR,
+};
+
+// The price of the sheet, whatever was metered.
+pub const SHEET_PRICE: i64 = 4_000;
+
+pub const METERED: [Metering; 6] = [
+    Metering {
+        reading: 700_000,
+        nets: [0, 50_667, 33_026, -83_693],
+    },
+    Metering {
+        reading: 730_000,
+        nets: [-2_000, 53_667, 32_949, -84_616],
+    },
+    Metering {
+        reading: 950_000,
+        nets: [-16_666, 74_200, 32_498, -90_032],
+    },
+    Metering {
+        reading: 590_000,
+        nets: [7_334, 39_333, 33_333, -80_000],
+    },
+    Metering {
+        reading: 590_001,
+        nets: [7_334, 39_666, 33_308, -80_308],
+    },
+    Metering {
+        reading: 0,
+        nets: [46_667, 7_533, 32_754, -86_954],
     },
 ];

@@ -6,6 +6,7 @@ use std::io;
 mod cases;
 mod figure;
 mod report;
+mod sheet;
 mod worked;
 
 fn main(rt: HostRuntime) -> io::Result<()> {

@@ -1,9 +1,8 @@
 // Each figure in a line: what it is, what it should be, what it came to, and whether the two are equal.
-use crate::cases::{ADJUSTED, CASES, Case, ENERGIES, LEVIES, Setting};
+use crate::cases::{ADJUSTED, CASES, Case, ENERGIES, LEVIES, METERED, Setting};
 use crate::figure::{Figure, Tally};
+use crate::sheet::nets_at;
 use crate::worked::Worked;
-use offers::curve::Curve;
-use offers::submission::Submission;
 use schedule::block::Blocks;
 use schedule::round::cents_of;
 use schedule::span::BalancingPrice;
@@ -19,10 +18,12 @@ pub fn all_figures(rt: &impl Print) -> io::Result<Tally> {
         station(rt, &mut tally, c)?;
     }
     list(rt, &mut tally, &LEVIES)?;
+    list(rt, &mut tally, &METERED)?;
+    all_nets(rt, &mut tally)?;
     Ok(tally)
 }
 
-// Kept: four private functions of a program pass the two on; a struct and its methods would take more lines than it saves.
+// Kept: six private functions of a program pass the two on; a struct and its methods would take more lines than it saves.
 fn line(rt: &impl Print, tally: &mut Tally, what: &impl Display, figure: Figure) -> io::Result<()> {
     println!(rt; "{what}: {figure}")?;
     tally.count(figure.is_equal());
@@ -37,12 +38,7 @@ fn list<W: Worked>(rt: &impl Print, tally: &mut Tally, entries: &[W]) -> io::Res
 }
 
 fn station_of(s: &Setting, reading: u32) -> Option<Station> {
-    let curve = Curve::of(s.pairs)?;
-    let submission = Submission {
-        ramp_up: s.ramp.up,
-        ramp_down: s.ramp.down,
-        curve,
-    };
+    let submission = s.submission()?;
     Station::new(s.factor, s.tolerance, s.ramp.start, submission, reading)
 }
 
@@ -80,6 +76,33 @@ fn taken(rt: &impl Print, tally: &mut Tally, c: &Case, blocks: &Blocks) -> io::R
         let figure = Figure::of(c.taken.get(i).copied(), computed);
         let number = i + 1;
         line(rt, tally, &format_args!("{what}, block {number}"), figure)?;
+    }
+    Ok(())
+}
+
+// Accounts 0 to 11; those past the first four should come to 0.
+fn accounts(
+    rt: &impl Print,
+    tally: &mut Tally,
+    what: &impl Display,
+    expected: &[i64; 4],
+    computed: Option<[i64; 12]>,
+) -> io::Result<()> {
+    let expected = expected.iter().copied().chain(std::iter::repeat(0));
+    let computed = computed.map_or([None; 12], |cents| cents.map(Some));
+    for (account, (expected, computed)) in expected.zip(computed).enumerate() {
+        let figure = Figure::of(Some(expected), computed);
+        let what = format_args!("{what}, account {account}");
+        line(rt, tally, &what, figure)?;
+    }
+    Ok(())
+}
+
+fn all_nets(rt: &impl Print, tally: &mut Tally) -> io::Result<()> {
+    for m in &METERED {
+        let reading = m.reading;
+        let what = format_args!("net at reading {reading}");
+        accounts(rt, tally, &what, &m.nets, nets_at(reading))?;
     }
     Ok(())
 }

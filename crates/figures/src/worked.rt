@@ -1,6 +1,7 @@
 // What each entry of the lists is called, and how its figure is worked out.
-use crate::cases::{Adjusting, Levying, Ramping};
+use crate::cases::{Adjusting, Levying, Metering, Ramping, SHEET_PRICE};
 use crate::figure::Figure;
+use crate::sheet::price_at;
 use schedule::round::adjusted_price;
 use schedule::sharing::levy;
 use schedule::span::LossFactor;
@@ -56,5 +57,18 @@ impl fmt::Display for Levying {
 impl Worked for Levying {
     fn figure(&self) -> Figure {
         Figure::of(self.levy, levy(self.total, &self.loads, self.account))
+    }
+}
+
+impl fmt::Display for Metering {
+    fn fmt<W: fmt::Write>(&self, f: &mut fmt::Formatter<W>) -> fmt::Result {
+        let reading = self.reading;
+        write!(f, "sheet at reading {reading}, price")
+    }
+}
+
+impl Worked for Metering {
+    fn figure(&self) -> Figure {
+        Figure::of(Some(SHEET_PRICE), price_at(self.reading))
     }
 }

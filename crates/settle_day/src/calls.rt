@@ -4,11 +4,18 @@ use merit::rung::RUNGS;
 use offers::pair::Pair;
 use pool::call::Call;
 
-// Kept: this and the next are one match, cut for its length.
-// The call of a line that has neither pairs nor an account.
-fn plain_call<'a>(line: DayLine) -> Option<Call<'a>> {
+// How many pairs the line brings.
+pub fn pairs_in(line: DayLine) -> usize {
     match line {
-        DayLine::Open { low, high } => Some(Call::Open { low, high }),
+        DayLine::Lodge { pairs, .. } => pairs,
+        _ => 0,
+    }
+}
+
+// Kept: this and the next two are one match, cut for its length.
+// The call of a line that gives a figure of a facility.
+fn figure_call<'a>(line: DayLine) -> Option<Call<'a>> {
+    match line {
         DayLine::Start {
             facility,
             interval,
@@ -27,19 +34,36 @@ fn plain_call<'a>(line: DayLine) -> Option<Call<'a>> {
             interval,
             kwmin,
         }),
+        DayLine::Adjust {
+            facility,
+            interval,
+            kwmin,
+        } => Some(Call::Adjust {
+            facility,
+            interval,
+            kwmin,
+        }),
+        _ => None,
+    }
+}
+
+// The call of a line that has neither pairs nor an account.
+fn plain_call<'a>(line: DayLine) -> Option<Call<'a>> {
+    match line {
+        DayLine::Open { low, high } => Some(Call::Open { low, high }),
         DayLine::Demand { interval, kw } => Some(Call::Demand { interval, kw }),
         DayLine::Close { interval } => Some(Call::Close {
             interval,
             rungs: RUNGS,
         }),
-        // Lines that settle or adjust are not taken yet.
-        _ => None,
+        DayLine::Settle { interval } => Some(Call::Settle { interval }),
+        _ => figure_call(line),
     }
 }
 
 // Kept: a line owns nothing lent and can be kept, a call lends its pairs; one type for both would be generic over the pairs at each of ten cases.
-// The call that a line makes. The pairs of a lodge stand at the front of the memory, which always has them.
-pub fn call_of<'a>(line: DayLine, memory: &'a [Pair]) -> Option<Call<'a>> {
+// The call that a line makes, if it makes one; a lodge with these pairs.
+pub fn call_of<'a>(line: DayLine, pairs: &'a [Pair]) -> Option<Call<'a>> {
     match line {
         DayLine::Register {
             account,
@@ -57,13 +81,13 @@ pub fn call_of<'a>(line: DayLine, memory: &'a [Pair]) -> Option<Call<'a>> {
             interval,
             ramp_up,
             ramp_down,
-            pairs,
+            pairs: _,
         } => Some(Call::Lodge {
             facility,
             interval,
             ramp_up,
             ramp_down,
-            pairs: &memory[0..pairs.min(memory.len())],
+            pairs,
         }),
         DayLine::Position {
             account,

@@ -2,12 +2,19 @@
 #![tactic(auto)]
 
 mod calls;
-mod file;
 mod lines;
+mod plan;
+mod report;
 
-use crate::file::Day;
-use crate::lines::{answer_lines, longest, number_of_lines, write_balances};
+use crate::lines::{number_of_lines, plan_lines};
+use crate::plan::Plan;
+use crate::report::{write_answers, write_balances};
+use day::whole::whole_day;
+use ledger::accounts::Ledger;
+use ledgers::limit::CreditLimit;
+use ledgers::table::AccountTable;
 use offers::pair::Pair;
+use sheets::row::Row;
 use std::io::{BufWriter, Read, Write};
 
 // All of standard input. Where it cannot be read, the error says how far it could.
@@ -20,16 +27,30 @@ fn read_input(rt: &HostRuntime) -> anyhow::Result<Vec<u8>> {
     Ok(text)
 }
 
+// Makes the calls over the ledger, and prints what they answer and the balances after them.
+fn settle<L: Ledger>(rt: &HostRuntime, plan: &Plan, ledger: &mut L) -> anyhow::Result<()> {
+    let mut rows = vec![in rt.alloc(); Row::blank(); plan.sheets]?;
+    let answers = whole_day(
+        rt.alloc(),
+        rows.as_mut_slice(),
+        ledger,
+        plan.calls.as_slice(),
+    )?;
+    let mut out = BufWriter::new(rt.alloc(), rt.stdout())?;
+    write_answers(&mut out, plan.asked.as_slice(), answers.as_slice())?;
+    write_balances(&mut out, ledger)?;
+    out.flush()?;
+    Ok(())
+}
+
 fn run(rt: &HostRuntime) -> anyhow::Result<()> {
     let text = read_input(rt)?;
     let none = Pair { price: 0, kw: 0 };
-    let mut memory = vec![in rt.alloc(); none; longest(text.as_slice())]?;
-    let mut day = Day::blank(rt.alloc())?;
-    let mut out = BufWriter::new(rt.alloc(), rt.stdout())?;
-    answer_lines(&mut out, &mut day, text.as_slice(), memory.as_mut_slice())?;
-    write_balances(&mut out, day.ledger())?;
-    out.flush()?;
-    Ok(())
+    let mut memory = vec![in rt.alloc(); none; text.len()]?;
+    let mut plan = Plan::blank(rt.alloc(), memory.as_mut_slice());
+    plan_lines(&mut plan, text.as_slice())?;
+    let mut limited = CreditLimit::new(AccountTable::new(), plan.limits);
+    settle(rt, &plan, &mut limited)
 }
 
 fn main(rt: HostRuntime) -> anyhow::Result<()> {
