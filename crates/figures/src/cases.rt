@@ -821,3 +821,23 @@ pub const METERED: [Metering; 6] = [
         nets: [46_667, 7_533, 32_754, -86_954],
     },
 ];
+
+// A corrected reading, and what it posts to accounts 0 to 3; to accounts 4 to 11 it posts 0.
+pub struct Correction {
+    pub from: u32,
+    pub to: u32,
+    pub posts: [i64; 4],
+}
+
+pub const CORRECTIONS: [Correction; 2] = [
+    Correction {
+        from: 700_000,
+        to: 730_000,
+        posts: [-2_000, 3_000, -77, -923],
+    },
+    Correction {
+        from: 730_000,
+        to: 700_000,
+        posts: [2_000, -3_000, 77, 923],
+    },
+];

@@ -1,7 +1,7 @@
 // Each figure in a line: what it is, what it should be, what it came to, and whether the two are equal.
-use crate::cases::{ADJUSTED, CASES, Case, ENERGIES, LEVIES, METERED, Setting};
+use crate::cases::{ADJUSTED, CASES, CORRECTIONS, Case, ENERGIES, LEVIES, METERED, Setting};
 use crate::figure::{Figure, Tally};
-use crate::sheet::nets_at;
+use crate::sheet::{change_of, nets_at};
 use crate::worked::Worked;
 use schedule::block::Blocks;
 use schedule::round::cents_of;
@@ -20,10 +20,11 @@ pub fn all_figures(rt: &impl Print) -> io::Result<Tally> {
     list(rt, &mut tally, &LEVIES)?;
     list(rt, &mut tally, &METERED)?;
     all_nets(rt, &mut tally)?;
+    all_posts(rt, &mut tally)?;
     Ok(tally)
 }
 
-// Kept: six private functions of a program pass the two on; a struct and its methods would take more lines than it saves.
+// Kept: seven private functions of a program pass the two on; a struct and its methods would take more lines than it saves.
 fn line(rt: &impl Print, tally: &mut Tally, what: &impl Display, figure: Figure) -> io::Result<()> {
     println!(rt; "{what}: {figure}")?;
     tally.count(figure.is_equal());
@@ -103,6 +104,15 @@ fn all_nets(rt: &impl Print, tally: &mut Tally) -> io::Result<()> {
         let reading = m.reading;
         let what = format_args!("net at reading {reading}");
         accounts(rt, tally, &what, &m.nets, nets_at(reading))?;
+    }
+    Ok(())
+}
+
+fn all_posts(rt: &impl Print, tally: &mut Tally) -> io::Result<()> {
+    for c in &CORRECTIONS {
+        let to = c.to;
+        let what = format_args!("post for the correction to {to}");
+        accounts(rt, tally, &what, &c.posts, change_of(c.from, to))?;
     }
     Ok(())
 }

@@ -1,6 +1,6 @@
-// The sheet of two stations at a reading of the first: its price and its nets.
+// The sheet of two stations at a reading of the first: its price, its nets, and what another reading changes of them.
 use crate::cases::{OTHER, Setting, WORKED};
-use amounts::nets::nets;
+use amounts::nets::{change, nets};
 use merit::price::balancing_price;
 use sheets::facility::{Facility, Prices};
 use sheets::register::Register;
@@ -57,4 +57,11 @@ pub fn nets_at(reading: u32) -> Option<[i64; 12]> {
     let register = two_stations()?;
     let sheet = Sheet::checked(&register, closed(reading)?)?;
     nets(&sheet)
+}
+
+pub fn change_of(from: u32, to: u32) -> Option<[i64; 12]> {
+    let register = two_stations()?;
+    let old = Sheet::checked(&register, closed(from)?)?;
+    let new = Sheet::checked(&register, closed(to)?)?;
+    change(&new, &old)
 }
