@@ -2,13 +2,14 @@
 use Rattle.std.specs.Prelude.{ℕ, if◌then◌else◌, List, Some, None, codes, Option}
 use Rattle.std.specs.Str.{bytes_eq}
 use Rattle.day_text.specs.declared.keyword.Keyword.{Keyword}
-use Rattle.day_text.specs.declared.keyword.Keyword.TheVariants.{Sheets, Limit, Register, Open, Start, Reading, Position, Demand, Close, Settle, Adjust}
+use Rattle.day_text.specs.declared.keyword.Keyword.TheVariants.{Sheets, Limit, Ledger, Register, Open, Start, Reading, Position, Demand, Close, Settle, Adjust, Print}
 
 -- the keyword that a word is, `lodge` apart
 abbrev pub keyword_of : List ℕ → Option Keyword
 keyword_of w =
     if bytes_eq w (codes "sheets") then Some Sheets
     else if bytes_eq w (codes "limit") then Some Limit
+    else if bytes_eq w (codes "ledger") then Some Ledger
     else if bytes_eq w (codes "register") then Some Register
     else if bytes_eq w (codes "open") then Some Open
     else if bytes_eq w (codes "start") then Some Start
@@ -18,4 +19,5 @@ keyword_of w =
     else if bytes_eq w (codes "close") then Some Close
     else if bytes_eq w (codes "settle") then Some Settle
     else if bytes_eq w (codes "adjust") then Some Adjust
+    else if bytes_eq w (codes "print") then Some Print
     else None

@@ -6,11 +6,11 @@ use Rattle.offers.specs.declared.pair.Pair.{Pair}
 use Rattle.day_text.specs.declared.keyword.Keyword.{Keyword}
 use Rattle.day_text.specs.declared.keyword.Keyword.TheVariants as keyword
 use Rattle.day_text.specs.declared.line.DayLine.{DayLine}
-use Rattle.day_text.specs.declared.line.DayLine.TheVariants.{Blank, Sheets, Limit, Register, Open, Lodge, Start, Reading, Position, Demand, Close, Settle, Adjust, NotACall}
+use Rattle.day_text.specs.declared.line.DayLine.TheVariants.{Blank, Sheets, Limit, Journal, Register, Open, Lodge, Start, Reading, Position, Demand, Close, Settle, Adjust, PrintJournal, NotACall}
 use Rattle.day_text.specs.declared.arguments.Target.{Target}
 use Rattle.day_text.specs.declared.arguments.Offer.{Offer}
 use Rattle.day_text.specs.Keywords.{keyword_of}
-use Rattle.day_text.specs.Words.{words, next_word, and_then, first, ended, natural, number, integer, cents, all_pairs}
+use Rattle.day_text.specs.Words.{words, next_word, and_then, first, past, ended, natural, number, integer, cents, all_pairs}
 
 -- ---- each line by the words after its keyword
 abbrev pub sheets_of : List (List ℕ) → Option DayLine
@@ -19,6 +19,14 @@ sheets_of ws = and_then (first (natural 1 48) ws) (λ n. ended (Sheets n.0) n.1)
 -- a ledger has at most 64 accounts
 abbrev pub limit_of : List (List ℕ) → Option DayLine
 limit_of ws = and_then (first (natural 0 63) ws) (λ a. and_then (first cents a.1) (λ c. ended (Limit a.0 c.0) c.1))
+
+-- the ledger is a journal with memory for at most a million lines
+abbrev pub journal_of : List (List ℕ) → Option DayLine
+journal_of ws = and_then (past (codes "journal") ws) (λ vs. and_then (first (natural 0 1000000) vs) (λ n. ended (Journal n.0) n.1))
+
+-- the journal alone can be printed
+abbrev pub print_of : List (List ℕ) → Option DayLine
+print_of ws = and_then (past (codes "journal") ws) (λ vs. ended PrintJournal vs)
 
 abbrev pub register_of : List (List ℕ) → Option DayLine
 register_of ws =
@@ -78,6 +86,7 @@ lodge_of ws = and_then (offer_of ws) (λ o. option_map (lodged o.0) (all_pairs o
 abbrev pub arguments_of : Keyword → List (List ℕ) → Option DayLine
 arguments_of keyword.Sheets ws = sheets_of ws
 arguments_of keyword.Limit ws = limit_of ws
+arguments_of keyword.Ledger ws = journal_of ws
 arguments_of keyword.Register ws = register_of ws
 arguments_of keyword.Open ws = open_of ws
 arguments_of keyword.Start ws = start_of ws
@@ -87,6 +96,7 @@ arguments_of keyword.Demand ws = demand_of ws
 arguments_of keyword.Close ws = close_of ws
 arguments_of keyword.Settle ws = settle_of ws
 arguments_of keyword.Adjust ws = adjust_of ws
+arguments_of keyword.Print ws = print_of ws
 
 -- a line other than a lodge, by its first word and the others
 abbrev pub plain_of : List ℕ → List (List ℕ) → Option DayLine

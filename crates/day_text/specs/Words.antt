@@ -3,6 +3,7 @@ use Rattle.std.specs.Prelude.{ℕ, List, [], ◌∷◌, length, if◌then◌else
 use Rattle.std.specs.List.{slice_split}
 use Rattle.std.specs.Option.{option_map, option_and_then}
 use Rattle.std.specs.Result.{result_ok}
+use Rattle.std.specs.Str.{bytes_eq}
 use Rattle.text.specs.Numbers.{natural_of, signed_of}
 use Rattle.text.specs.Lines.{before, after}
 use Rattle.offers.specs.declared.pair.Pair.{Pair}
@@ -27,6 +28,10 @@ and_then o f = option_and_then f o
 -- what the first word says, and the words after it
 abbrev pub first : {X : Type 0} → (List ℕ → Option X) → List (List ℕ) → Option (X × List (List ℕ))
 first f ws = and_then (next_word ws) (λ n. option_map (λ x. (x, n.1)) (f n.0))
+
+-- the words after the first, which must be the given one
+abbrev pub past : List ℕ → List (List ℕ) → Option (List (List ℕ))
+past given ws = and_then (next_word ws) (λ n. if bytes_eq n.0 given then Some n.1 else None)
 
 -- no word may be left
 abbrev pub ended : {X : Type 0} → X → List (List ℕ) → Option X

@@ -1,7 +1,7 @@
 // Each line by the words after its keyword.
 ghost use Rattle.std.specs.Prelude.{◌≡◌};
 ghost use Rattle.std.specs.Option.{option_map};
-ghost use Rattle.day_text.specs.Lines.{sheets_of, limit_of, register_of, open_of, targeted, position_of, demand_of, interval_of, offer_of, plain_of};
+ghost use Rattle.day_text.specs.Lines.{sheets_of, limit_of, journal_of, print_of, register_of, open_of, targeted, position_of, demand_of, interval_of, offer_of, plain_of};
 
 use crate::keyword::{Keyword, keyword_of};
 use crate::line::DayLine;
@@ -38,6 +38,21 @@ fn limit(mut words: Words) -> Option<DayLine>
     let account = words.number(0, 63)?;
     let cents = words.read()?;
     words.end(DayLine::Limit { account, cents })
+}
+
+fn journal(mut words: Words) -> Option<DayLine>
+    ensures { result ≡ journal_of words.entry }
+{
+    words.past(b"journal")?;
+    let lines = words.number(0, 1_000_000)?;
+    words.end(DayLine::Journal { lines })
+}
+
+fn print(mut words: Words) -> Option<DayLine>
+    ensures { result ≡ print_of words.entry }
+{
+    words.past(b"journal")?;
+    words.end(DayLine::PrintJournal)
 }
 
 // Kept: this and `position`, as `open` and `demand`, read as many words, but not the same kinds of number; one function for both
@@ -122,6 +137,7 @@ pub fn plain(word: &[u8], words: Words) -> Option<DayLine>
     match keyword_of(word)? {
         Keyword::Sheets => sheets(words),
         Keyword::Limit => limit(words),
+        Keyword::Ledger => journal(words),
         Keyword::Register => register(words),
         Keyword::Open => open(words),
         Keyword::Start => targeted(words).map(|t| DayLine::Start {
@@ -143,5 +159,6 @@ pub fn plain(word: &[u8], words: Words) -> Option<DayLine>
             interval: t.interval,
             kwmin: t.figure,
         }),
+        Keyword::Print => print(words),
     }
 }

@@ -6,6 +6,7 @@ ghost use Rattle.day_text.specs.Keywords.{keyword_of};
 pub enum Keyword {
     Sheets,
     Limit,
+    Ledger,
     Register,
     Open,
     Start,
@@ -15,6 +16,7 @@ pub enum Keyword {
     Close,
     Settle,
     Adjust,
+    Print,
 }
 
 pub fn keyword_of(word: &[u8]) -> Option<Keyword>
@@ -23,6 +25,7 @@ pub fn keyword_of(word: &[u8]) -> Option<Keyword>
     match word {
         b"sheets" => Some(Keyword::Sheets),
         b"limit" => Some(Keyword::Limit),
+        b"ledger" => Some(Keyword::Ledger),
         b"register" => Some(Keyword::Register),
         b"open" => Some(Keyword::Open),
         b"start" => Some(Keyword::Start),
@@ -32,6 +35,7 @@ pub fn keyword_of(word: &[u8]) -> Option<Keyword>
         b"close" => Some(Keyword::Close),
         b"settle" => Some(Keyword::Settle),
         b"adjust" => Some(Keyword::Adjust),
+        b"print" => Some(Keyword::Print),
         _ => None,
     }
 }

@@ -1,6 +1,6 @@
 // What a line of a day file says.
 
-// Kept: `NotACall` is one answer among fourteen; an Option round the others would move that case out and every caller would match twice.
+// Kept: `NotACall` is one answer among sixteen; an Option round the others would move that case out and every caller would match twice.
 #[derive(Clone, Copy, PartialEq, Eq, Debug)]
 pub enum DayLine {
     // Empty, or a comment.
@@ -13,6 +13,10 @@ pub enum DayLine {
     Limit {
         account: u32,
         cents: i64,
+    },
+    // A journal with memory for so many lines as the ledger.
+    Journal {
+        lines: u32,
     },
     Register {
         account: u32,
@@ -64,5 +68,7 @@ pub enum DayLine {
         interval: u32,
         kwmin: u32,
     },
+    // The journal's lines are asked for.
+    PrintJournal,
     NotACall,
 }

@@ -1,7 +1,7 @@
 // The words of a line, read one after another.
 ghost use Rattle.std.specs.Prelude.{◌≡◌, [], drop, IsNone};
 ghost use Rattle.std.specs.Option.{option_map};
-ghost use Rattle.day_text.specs.Words.{words, next_word, first, ended, natural as natural_spec};
+ghost use Rattle.day_text.specs.Words.{words, next_word, first, past, ended, natural as natural_spec};
 
 use std::marker::Model;
 use text::line::cut;
@@ -108,6 +108,14 @@ impl<'a> Words<'a> {
         ensures passed { self.new ≡ drop 1 self.old }
     {
         T::from_word(self.next()?)
+    }
+
+    // Passes the next word, which must be this one.
+    pub fn past(&mut self, given: &[u8]) -> Option<()>
+        ensures value { option_map (λ x. self.new) result ≡ past given.now self.old }
+        ensures passed { self.new ≡ drop 1 self.old }
+    {
+        (self.next()? == given).then_some(())
     }
 
     // The same of a number from low to high.

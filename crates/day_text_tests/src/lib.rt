@@ -101,6 +101,29 @@ mod tests {
     }
 
     #[test]
+    fn journal_lines(rt: HostRuntime) {
+        assert_eq!(rt; said(b"ledger journal 0"), DayLine::Journal { lines: 0 });
+        assert_eq!(rt;
+            said(b"ledger journal 1000000"),
+            DayLine::Journal { lines: 1_000_000 }
+        );
+        assert!(rt;
+            is_no_call(b"ledger journal 1000001"),
+            "more than a million"
+        );
+        assert!(rt; is_no_call(b"ledger journal") && is_no_call(b"ledger journal "));
+        assert!(rt; is_no_call(b"ledger journal 5 6"), "a word too many");
+        assert!(rt; is_no_call(b"ledger journal 05"), "a leading zero");
+        assert!(rt; is_no_call(b"ledger table 5"), "no journal");
+        assert!(rt; is_no_call(b"ledger  journal 5"), "two spaces");
+        assert!(rt; is_no_call(b"ledger journals 5") && is_no_call(b"ledger"));
+        assert_eq!(rt; said(b"print journal"), DayLine::PrintJournal);
+        assert!(rt; is_no_call(b"print journal 1"), "a word too many");
+        assert!(rt; is_no_call(b"print journal "), "a space at the end");
+        assert!(rt; is_no_call(b"print") && is_no_call(b"print table"));
+    }
+
+    #[test]
     fn words_and_numbers(rt: HostRuntime) {
         assert!(rt; is_no_call(b"demand 1"), "a word too few");
         assert!(rt; is_no_call(b"demand 1 2 3"), "a word too many");

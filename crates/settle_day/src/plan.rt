@@ -1,4 +1,4 @@
-// What a day file asks for: how many sheets, which credit limits, and the calls with the lines on which they stand.
+// What a day file asks for: how many sheets, which ledger and credit limits, and the calls with the lines on which they stand.
 use crate::calls::{call_of, pairs_in};
 use day_text::line::DayLine;
 use day_text::parse::parse;
@@ -31,18 +31,24 @@ pub struct Plan<'a> {
     memory: &'a mut [Pair],
     pub sheets: usize,
     pub limits: [i64; 64],
+    // How many lines of memory the journal has; the account table where there is none.
+    pub journal: Option<u32>,
+    // Whether the journal's lines are to be printed.
+    pub print: bool,
     pub calls: Vec<Call<'a>>,
     pub asked: Vec<Asked>,
 }
 
 impl<'a> Plan<'a> {
-    // 48 sheets, no limit that binds, and no call.
+    // 48 sheets, the account table under no limit that binds, and no call.
     pub fn blank(heap: Global, memory: &'a mut [Pair]) -> Plan<'a> {
         Plan {
             stage: Stage::Begun,
             memory,
             sheets: 48,
             limits: [MOST; 64],
+            journal: None,
+            print: false,
             calls: Vec::new(heap),
             asked: Vec::new(heap),
         }
@@ -81,6 +87,26 @@ impl<'a> Plan<'a> {
         }
     }
 
+    fn set_journal(&mut self, number: u64, lines: u32) -> Result<(), AllocError> {
+        match self.stage {
+            Stage::Begun | Stage::Limits => {
+                self.stage = Stage::Limits;
+                self.journal = Some(lines);
+                Ok(())
+            }
+            Stage::Calls => self.not_a_call(number),
+        }
+    }
+
+    // Without a journal before it there is nothing to print.
+    fn print_journal(&mut self, number: u64) -> Result<(), AllocError> {
+        if self.journal.is_none() {
+            return self.not_a_call(number);
+        }
+        self.print = true;
+        Ok(())
+    }
+
     fn add(&mut self, number: u64, call: Call<'a>) -> Result<(), AllocError> {
         self.stage = Stage::Calls;
         self.calls.push(call)?;
@@ -103,6 +129,8 @@ impl<'a> Plan<'a> {
             DayLine::Blank => Ok(()),
             DayLine::Sheets { count } => self.set_sheets(number, count),
             DayLine::Limit { account, cents } => self.set_limit(number, account, cents),
+            DayLine::Journal { lines } => self.set_journal(number, lines),
+            DayLine::PrintJournal => self.print_journal(number),
             said => {
                 let pairs = self.take_pairs(pairs_in(said));
                 match call_of(said, pairs) {

@@ -1,6 +1,7 @@
-// What is printed of a day: the answers, and the balances after it.
+// What is printed of a day: the answers, the balances after it, and the lines of its journal.
 use crate::plan::Asked;
-use answer_text::{answer_line, balance_line, not_a_call, sum_line};
+use answer_text::{answer_line, balance_line, journal_line, not_a_call, sum_line};
+use journal::line::Line;
 use ledger::accounts::Accounts;
 use pool::call::Answer;
 use refusals::Refusal;
@@ -38,4 +39,12 @@ pub fn write_balances<W: Write, L: Accounts>(out: &mut W, ledger: &L) -> io::Res
         }
     }
     out.write_all(sum_line(sum).bytes())
+}
+
+// The lines of a journal, numbered from 1.
+pub fn write_journal<W: Write>(out: &mut W, lines: &[Line]) -> io::Result<()> {
+    for (number, line) in (1..).zip(lines) {
+        out.write_all(journal_line(number, line.account, line.cents).bytes())?;
+    }
+    Ok(())
 }

@@ -10,6 +10,9 @@ read word keyword len bytes = sym (ap keyword_of (text_from_reads word keyword l
 pub returns-in-sheets : goal.returns-in-sheets
 returns-in-sheets c = read c.args.word.now (codes "sheets") (omega arith) (search rules)
 
+pub returns-in-ledger : goal.returns-in-ledger
+returns-in-ledger c = read c.args.word.now (codes "ledger") (omega arith) (search rules)
+
 pub returns-in-register : goal.returns-in-register
 returns-in-register c = read c.args.word.now (codes "register") (omega arith) (search rules)
 
