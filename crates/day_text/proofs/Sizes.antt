@@ -1,6 +1,6 @@
 -- A line has no more pairs than bytes.
 use Rattle.std.proofs.Common.{◌≡◌, ℕ, suc, ◌+◌, ◌≤◌, true, false, cond, eqb, List, [], ◌∷◌, length, Some, None, codes, Option, ap, arith}
-use Rattle.std.specs.List.{onto_first}
+use Rattle.std.specs.List.{onto_first, slice_split}
 use Rattle.std.specs.Option.{option_map}
 use Rattle.std.specs.Str.{bytes_eq}
 use Rattle.std.proofs.lemmas.Bool.{cond-true}
@@ -13,8 +13,8 @@ use Rattle.day_text.specs.Words.{words, and_then, first, number, pair_of, all_pa
 use Rattle.day_text.specs.Lines.{blank, offer_of, lodged, lodge_of, plain_of, call_of, or_not, read_of, pairs_of, line_of, brought, fit, line_into}
 use Rattle.day_text.proofs.Laying.{line_brings}
 
--- the bytes of words
-bytes : List (List ℕ) → ℕ
+-- the bytes of words, or of lines
+unfoldable pub bytes : List (List ℕ) → ℕ
 bytes [] = 0
 bytes (w ∷ ws) = length w + bytes ws
 
@@ -23,14 +23,16 @@ unfolding bytes
 bytes-onto_first c [] = omega arith
 bytes-onto_first c (w ∷ ws) = omega arith
 
-bytes_words : (s : List ℕ) → bytes (words s) ≤ length s
+-- cut at each byte k
+pub bytes_split : (k : ℕ) (s : List ℕ) → bytes (slice_split (λ c. eqb c k) s) ≤ length s
 unfolding bytes
-bytes_words [] = omega arith
-bytes_words (c ∷ cs) =
-    let h = bytes_words cs in
-    elim (eqb c 32) as (λ b. bytes (cond b ([] ∷ words cs) (onto_first c (words cs))) ≤ suc (length cs)) [
+bytes_split k [] = omega arith
+bytes_split k (c ∷ cs) =
+    let h = bytes_split k cs in
+    let ps = slice_split (λ b. eqb b k) cs in
+    elim (eqb c k) as (λ b. bytes (cond b ([] ∷ ps) (onto_first c ps)) ≤ suc (length cs)) [
       | true ↦ omega arith
-      | false ↦ omega (arith, bytes-onto_first c (words cs))
+      | false ↦ omega (arith, bytes-onto_first c ps)
     ]
 
 -- an empty word is no pair
@@ -94,7 +96,7 @@ pairs_few s =
     let q = call_of (words s) in
     elim (blank s) as (λ b. length (cond b (Blank, []) (or_not q)).1 ≤ length s) [
       | true ↦ omega arith
-      | false ↦ omega (arith, call_bytes (words s), bytes_words s, ap length (line_brings q))
+      | false ↦ omega (arith, call_bytes (words s), bytes_split 32 s, ap length (line_brings q))
     ]
 
 -- memory for as many pairs as there are bytes

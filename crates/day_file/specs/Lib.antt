@@ -1,0 +1,4 @@
+pub mod Calls
+pub mod Plans
+pub mod Reports
+pub mod Settles

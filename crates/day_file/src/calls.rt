@@ -1,0 +1,99 @@
+// A line of the day file as a call.
+ghost use Rattle.std.specs.Prelude.{◌≡◌, length};
+ghost use Rattle.std.specs.Option.{option_map};
+ghost use Rattle.day_file.specs.Calls.{said, calling, pairs_in as pairs_in_spec};
+
+use day_text::line::DayLine;
+use merit::rung::RUNGS;
+use offers::pair::Pair;
+use pool::call::Call;
+
+// How many pairs the line brings.
+pub fn pairs_in(line: DayLine) -> usize
+    ensures { result ≡ pairs_in_spec line }
+{
+    match line {
+        DayLine::Lodge { pairs, .. } => pairs,
+        _ => 0,
+    }
+}
+
+// Kept: a line owns nothing lent and can be kept, a call lends its pairs; one type for both would be generic over the pairs at each of ten cases.
+// The call that a line makes with its pairs, if it makes one.
+pub fn call_of<'a>(line: DayLine, pairs: &'a [Pair]) -> Option<Call<'a>>
+    requires { length pairs.now ≡ pairs_in_spec line }
+    ensures { option_map said result ≡ calling line pairs.now }
+{
+    Some(match line {
+        DayLine::Register {
+            account,
+            loss_factor,
+            capacity,
+            tolerance,
+        } => Call::Register {
+            account,
+            loss_factor,
+            capacity,
+            tolerance,
+        },
+        DayLine::Open { low, high } => Call::Open { low, high },
+        DayLine::Lodge {
+            facility,
+            interval,
+            ramp_up,
+            ramp_down,
+            pairs: _,
+        } => Call::Lodge {
+            facility,
+            interval,
+            ramp_up,
+            ramp_down,
+            pairs,
+        },
+        DayLine::Start {
+            facility,
+            interval,
+            kw,
+        } => Call::Start {
+            facility,
+            interval,
+            kw,
+        },
+        DayLine::Reading {
+            facility,
+            interval,
+            kwmin,
+        } => Call::Reading {
+            facility,
+            interval,
+            kwmin,
+        },
+        DayLine::Position {
+            account,
+            interval,
+            contract,
+            load,
+        } => Call::Position {
+            account,
+            interval,
+            contract,
+            load,
+        },
+        DayLine::Demand { interval, kw } => Call::Demand { interval, kw },
+        DayLine::Close { interval } => Call::Close {
+            interval,
+            rungs: RUNGS,
+        },
+        DayLine::Settle { interval } => Call::Settle { interval },
+        DayLine::Adjust {
+            facility,
+            interval,
+            kwmin,
+        } => Call::Adjust {
+            facility,
+            interval,
+            kwmin,
+        },
+        _ => return None,
+    })
+}
