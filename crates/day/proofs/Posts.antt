@@ -25,18 +25,19 @@ did : (d : Day) (v : View) (c : Call) (r : Answered) (e : Day) (w : View) → Do
 did d v c (Ok a) e w t = t.changes
 did d v c (Err f) e w t = t.same
 
-posts_push : (d : Day) (v : View) (cs : List Call) (rs : List Answered) (e : Day) (w : View) (c : Call) (r : Answered) → Goes d v cs rs e w →
-    posts_made d (cs ++ c ∷ []) (rs ++ r ∷ []) ≡ posts_made d cs rs ++ made_posts e c r
-posts_push d v [] [] e w c r g = append-nil (made_posts d c r) ∙ ap (λ k. made_posts k c r) (sym g.0)
-posts_push d v [] (a ∷ rs) e w c r g = absurd g
-posts_push d v (k ∷ cs) [] e w c r g = absurd g
-posts_push d v (k ∷ cs) (a ∷ rs) e w c r g =
-    let on : day_after d k a ≡ g.0 = sym (did d v k a g.0 g.1.0 g.1.1.1.0) in
-    let rest = ap (λ f. posts_made f (cs ++ c ∷ []) (rs ++ r ∷ [])) on ∙ posts_push g.0 g.1.0 cs rs e w c r g.1.1.1.1 in
-    ap (λ ps. made_posts d k a ++ ps) (rest ∙ ap (λ f. posts_made f cs rs ++ made_posts e c r) (sym on))
-    ∙ sym (append_assoc (made_posts d k a) (posts_made (day_after d k a) cs rs) (made_posts e c r))
+module _ {L : Type 0} (view : L → View) (took : L → List Post → L → Type 0) where
+  posts_push : (d : Day) (x : L) (cs : List Call) (rs : List Answered) (e : Day) (z : L) (c : Call) (r : Answered) → Goes view took d x cs rs e z →
+      posts_made d (cs ++ c ∷ []) (rs ++ r ∷ []) ≡ posts_made d cs rs ++ made_posts e c r
+  posts_push d x [] [] e z c r g = append-nil (made_posts d c r) ∙ ap (λ k. made_posts k c r) (sym g.0)
+  posts_push d x [] (a ∷ rs) e z c r g = absurd g
+  posts_push d x (k ∷ cs) [] e z c r g = absurd g
+  posts_push d x (k ∷ cs) (a ∷ rs) e z c r g =
+      let on : day_after d k a ≡ g.0 = sym (did d (view x) k a g.0 (view g.1.0) g.1.1.1.1.0) in
+      let rest = ap (λ f. posts_made f (cs ++ c ∷ []) (rs ++ r ∷ [])) on ∙ posts_push g.0 g.1.0 cs rs e z c r g.1.1.1.1.1 in
+      ap (λ ps. made_posts d k a ++ ps) (rest ∙ ap (λ f. posts_made f cs rs ++ made_posts e c r) (sym on))
+      ∙ sym (append_assoc (made_posts d k a) (posts_made (day_after d k a) cs rs) (made_posts e c r))
 
-pub took_push : {X : Type 0} (took : X → List Post → X → Type 0) (more : (x y z : X) (ps qs : List Post) → took x ps y → took y qs z → took x (ps ++ qs) z)
-    (x y z : X) (d : Day) (v : View) (cs : List Call) (rs : List Answered) (e : Day) (w : View) (c : Call) (r : Answered) → Goes d v cs rs e w →
-    took x (posts_made d cs rs) y → took y (made_posts e c r) z → took x (posts_made d (cs ++ c ∷ []) (rs ++ r ∷ [])) z
-took_push took more x y z d v cs rs e w c r g s t = subst (λ ps. took x ps z) (sym (posts_push d v cs rs e w c r g)) (more x y z (posts_made d cs rs) (made_posts e c r) s t)
+  pub took_push : (more : (x y z : L) (ps qs : List Post) → took x ps y → took y qs z → took x (ps ++ qs) z)
+      (x y z : L) (d : Day) (cs : List Call) (rs : List Answered) (e : Day) (c : Call) (r : Answered) → Goes view took d x cs rs e y →
+      took x (posts_made d cs rs) y → took y (made_posts e c r) z → took x (posts_made d (cs ++ c ∷ []) (rs ++ r ∷ [])) z
+  took_push more x y z d cs rs e c r g s t = subst (λ ps. took x ps z) (sym (posts_push d x cs rs e y c r g)) (more x y z (posts_made d cs rs) (made_posts e c r) s t)

@@ -6,6 +6,7 @@ use Rattle.std.proofs.lemmas.Int.{ints}
 use Rattle.std.proofs.lemmas.Bool.{le-ltb, cond-false}
 use Rattle.ledger.specs.declared.row.RowRefusal.{RowRefusal}
 use Rattle.ledger.specs.View.{View, Sound}
+use Rattle.ledger.specs.Posting.{Post}
 use Rattle.ledger.specs.Rows.{amount, row_refusal, Gained}
 use Rattle.ledger.specs.Sums.{ledger_sum, row_sum}
 use Rattle.ledger.proofs.Moves.{gained_as, gained_same, gained_then}
@@ -17,7 +18,7 @@ use Rattle.sheets.specs.Sheets.{blank_row}
 use Rattle.amounts.specs.Claims.{NetsBalance}
 use Rattle.pool.specs.declared.call.Call.{Call}
 use Rattle.pool.specs.declared.call.Call.TheVariants.{Register, Open, Lodge, Start, Reading, Position, Demand, Close, Settle, Adjust}
-use Rattle.pool.specs.Day.{Day, Does, not_refused, checks, table, posted, Moves}
+use Rattle.pool.specs.Day.{Day, Does, not_refused, checks, table, posted, made_posts, Moves}
 use Rattle.pool.specs.Held.{held}
 use Rattle.day.specs.Book.{Book, Answered, blank, blank_page, noted, fed, kept, told_page, told}
 use Rattle.day.specs.Law.{gains, Heeds, Follows, Law, Goes}
@@ -99,70 +100,81 @@ stepped balance b v c (Err e) f u s t = record {
 }
 
 -- ---- a list of calls
-record Facts (b : Book) (v : View) (cs : List Call) (rs : List Answered) (d : Day) (w : View) : Type 0 where
-  sum : ledger_sum w ≡ ledger_sum v
-  heeded : Follows b v cs rs w
-  holds : d ≡ told (kept b cs rs)
-  gained : Gained v (between b (kept b cs rs)) w
-  standing : Standing (kept b cs rs)
-
-facts : NetsBalance → (b : Book) (v : View) (cs : List Call) (rs : List Answered) (d e : Day) (w : View) → Standing b → d ≡ told b → Goes d v cs rs e w → Facts b v cs rs e w
-unfolding between
-facts balance b v [] [] d e w s h g = record { sum = ap ledger_sum g.1; heeded = g.1; holds = g.0 ∙ h; gained = still_gained b v w g.1; standing = s }
-facts balance b v [] (r ∷ rs) d e w s h g = absurd g
-facts balance b v (c ∷ cs) [] d e w s h g = absurd g
-facts balance b v (c ∷ cs) (r ∷ rs) d e w s h g =
-    let f = g.0 in
-    let u = g.1.0 in
-    let one = stepped balance b v c r f u s (subst (λ (k : Day). Does (λ x. x) k v c r f u) h g.1.1.1.0) in
-    let k = fed b c r in
-    let rest = facts balance k u cs rs f e w one.standing one.holds g.1.1.1.1 in
-    let end = kept k cs rs in
-    record {
-      sum = rest.sum ∙ one.sum;
-      heeded = (u, (g.1.1.0, (one.heeds, rest.heeded)));
-      holds = rest.holds;
-      gained = gained_as v w (λ a. between b k a +ℤ between k end a) (between b end)
-          (λ a. less_then (gains b.facilities a b.pages) (gains k.facilities a k.pages) (gains end.facilities a end.pages))
-          (gained_then v u w (between b k) (between k end) one.gained rest.gained);
-      standing = rest.standing;
-    }
-
 less_none : (x y : ℤ) → y ≡ pos 0 → x ≡ x -ℤ y
 less_none x y e = omega (arith, ints)
 
-pub lawful : NetsBalance → (n : ℕ) (v : View) (cs : List Call) (rs : List Answered) (d e : Day) (w : View) → d ≡ told (blank n) → Goes d v cs rs e w → Law n v cs rs e w
-unfolding between
-lawful balance n v cs rs d e w h g =
-    let s = standing_blank n in
-    let t = facts balance (blank n) v cs rs d e w s h g in
-    let b = kept (blank n) cs rs in
-    record {
-      sum = t.sum;
-      heeded = t.heeded;
-      holds = t.holds;
-      gained = gained_as v w (between (blank n) b) (λ a. gains b.facilities a b.pages) (λ a. less_none _ _ (blank_gains [] [] a (blank n).pages s.pages)) t.gained;
-      whole = standing_whole b t.standing;
-      least = standing_least b t.standing;
-    }
+module _ {L : Type 0} (view : L → View) (took : L → List Post → L → Type 0) where
+  record Facts (b : Book) (x : L) (cs : List Call) (rs : List Answered) (d : Day) (z : L) : Type 0 where
+    sum : ledger_sum (view z) ≡ ledger_sum (view x)
+    heeded : Follows view took b x cs rs z
+    holds : d ≡ told (kept b cs rs)
+    gained : Gained (view x) (between b (kept b cs rs)) (view z)
+    standing : Standing (kept b cs rs)
 
--- ---- one call more
-goes_push : (d : Day) (v : View) (cs : List Call) (rs : List Answered) (e : Day) (w : View) (c : Call) (r : Answered) (f : Day) (u : View) →
-    Goes d v cs rs e w → Sound u → Does (λ x. x) e w c r f u → Goes d v (cs ++ c ∷ []) (rs ++ r ∷ []) f u
-goes_push d v [] [] e w c r f u g sound s =
-    let p : Does (λ x. x) d w c r f u = subst (λ (k : Day). Does (λ x. x) k w c r f u) g.0 s in
-    let q : Does (λ x. x) d v c r f u = subst (λ (k : View). Does (λ x. x) d k c r f u) g.1 p in
-    (f, (u, (sound, (q, (refl, refl)))))
-goes_push d v [] (a ∷ rs) e w c r f u g sound s = absurd g
-goes_push d v (k ∷ cs) [] e w c r f u g sound s = absurd g
-goes_push d v (k ∷ cs) (a ∷ rs) e w c r f u g sound s =
-    (g.0, (g.1.0, (g.1.1.0, (g.1.1.1.0, goes_push g.0 g.1.0 cs rs e w c r f u g.1.1.1.1 sound s))))
+  facts : NetsBalance → (b : Book) (x : L) (cs : List Call) (rs : List Answered) (d e : Day) (z : L) → Standing b → d ≡ told b → Goes view took d x cs rs e z → Facts b x cs rs e z
+  unfolding between
+  facts balance b x [] [] d e z s h g = record {
+    sum = ap (λ y. ledger_sum (view y)) g.1;
+    heeded = g.1;
+    holds = g.0 ∙ h;
+    gained = still_gained b (view x) (view z) (ap view g.1);
+    standing = s;
+  }
+  facts balance b x [] (r ∷ rs) d e z s h g = absurd g
+  facts balance b x (c ∷ cs) [] d e z s h g = absurd g
+  facts balance b x (c ∷ cs) (r ∷ rs) d e z s h g =
+      let f = g.0 in
+      let y = g.1.0 in
+      let one = stepped balance b (view x) c r f (view y) s (subst (λ (k : Day). Does (λ t. t) k (view x) c r f (view y)) h g.1.1.1.1.0) in
+      let posts = subst (λ (k : Day). took x (made_posts k c r) y) h g.1.1.1.0 in
+      let k = fed b c r in
+      let rest = facts balance k y cs rs f e z one.standing one.holds g.1.1.1.1.1 in
+      let end = kept k cs rs in
+      record {
+        sum = rest.sum ∙ one.sum;
+        heeded = (y, (g.1.1.0, (posts, (one.heeds, rest.heeded))));
+        holds = rest.holds;
+        gained = gained_as (view x) (view z) (λ a. between b k a +ℤ between k end a) (between b end)
+            (λ a. less_then (gains b.facilities a b.pages) (gains k.facilities a k.pages) (gains end.facilities a end.pages))
+            (gained_then (view x) (view y) (view z) (between b k) (between k end) one.gained rest.gained);
+        standing = rest.standing;
+      }
 
--- one turn of the loop over the calls
-pub goes_more : (all : List Call) (i : ℕ) (d : Day) (v : View) (rs : List Answered) (e : Day) (w : View) (r : Answered) (more : List Answered) (f : Day) (u : View) →
-    i < length all → Goes d v (take i all) rs e w → Sound u → Does (λ x. x) e w (get_or all i (Register 0 0 0 0)) r f u → more ≡ rs ++ r ∷ [] → Goes d v (take (i + 1) all) more f u
-goes_more all i d v rs e w r more f u h g sound s p =
-    rw (take_more all i (Register 0 0 0 0) h, p) (goes_push d v (take i all) rs e w (get_or all i (Register 0 0 0 0)) r f u g sound s)
+  pub lawful : NetsBalance → (n : ℕ) (x : L) (cs : List Call) (rs : List Answered) (d e : Day) (z : L) → d ≡ told (blank n) → Goes view took d x cs rs e z → Law view took n x cs rs e z
+  unfolding between
+  lawful balance n x cs rs d e z h g =
+      let s = standing_blank n in
+      let t = facts balance (blank n) x cs rs d e z s h g in
+      let b = kept (blank n) cs rs in
+      record {
+        sum = t.sum;
+        heeded = t.heeded;
+        holds = t.holds;
+        gained = gained_as (view x) (view z) (between (blank n) b) (λ a. gains b.facilities a b.pages) (λ a. less_none _ _ (blank_gains [] [] a (blank n).pages s.pages)) t.gained;
+        whole = standing_whole b t.standing;
+        least = standing_least b t.standing;
+      }
+
+  -- ---- one call more
+  goes_push : (d : Day) (x : L) (cs : List Call) (rs : List Answered) (e : Day) (z : L) (c : Call) (r : Answered) (f : Day) (y : L) →
+      Goes view took d x cs rs e z → Sound (view y) → took z (made_posts e c r) y → Does (λ t. t) e (view z) c r f (view y) → Goes view took d x (cs ++ c ∷ []) (rs ++ r ∷ []) f y
+  goes_push d x [] [] e z c r f y g sound posts s =
+      let p : Does (λ t. t) d (view z) c r f (view y) = subst (λ (k : Day). Does (λ t. t) k (view z) c r f (view y)) g.0 s in
+      let q : Does (λ t. t) d (view x) c r f (view y) = subst (λ (k : L). Does (λ t. t) d (view k) c r f (view y)) g.1 p in
+      let m : took z (made_posts d c r) y = subst (λ (k : Day). took z (made_posts k c r) y) g.0 posts in
+      let n : took x (made_posts d c r) y = subst (λ (k : L). took k (made_posts d c r) y) g.1 m in
+      (f, (y, (sound, (n, (q, (refl, refl))))))
+  goes_push d x [] (a ∷ rs) e z c r f y g sound posts s = absurd g
+  goes_push d x (k ∷ cs) [] e z c r f y g sound posts s = absurd g
+  goes_push d x (k ∷ cs) (a ∷ rs) e z c r f y g sound posts s =
+      (g.0, (g.1.0, (g.1.1.0, (g.1.1.1.0, (g.1.1.1.1.0, goes_push g.0 g.1.0 cs rs e z c r f y g.1.1.1.1.1 sound posts s)))))
+
+  -- one turn of the loop over the calls
+  pub goes_more : (all : List Call) (i : ℕ) (d : Day) (x : L) (rs : List Answered) (e : Day) (z : L) (r : Answered) (more : List Answered) (f : Day) (y : L) →
+      i < length all → Goes view took d x (take i all) rs e z → Sound (view y) → took z (made_posts e (get_or all i (Register 0 0 0 0)) r) y
+      → Does (λ t. t) e (view z) (get_or all i (Register 0 0 0 0)) r f (view y) → more ≡ rs ++ r ∷ [] → Goes view took d x (take (i + 1) all) more f y
+  goes_more all i d x rs e z r more f y h g sound posts s p =
+      rw (take_more all i (Register 0 0 0 0) h, p) (goes_push d x (take i all) rs e z (get_or all i (Register 0 0 0 0)) r f y g sound posts s)
 
 -- ---- register and sheets that are blank
 told_blank : (n : ℕ) → replicate n blank_row ≡ map told_page (replicate n blank_page)

@@ -26,12 +26,20 @@ abbrev pub Heeds : Book → View → Call → Answered → View → Type 0
 Heeds b v c (Ok a) w = (table (told b) v c ≡ Ok tt) × ((a ≡ answer (told b) c) × Moves v (posted (told b) c) w)
 Heeds b v c (Err f) w = (table (told b) v c ≡ Err f) × (w ≡ v)
 
--- a list of calls, with the ledger after each
-abbrev pub Follows : Book → View → List Call → List Answered → View → Type 0
-Follows b v [] [] w = w ≡ v
-Follows b v [] (r ∷ rs) w = ⊥
-Follows b v (c ∷ cs) [] w = ⊥
-Follows b v (c ∷ cs) (r ∷ rs) w = (u : View) × (Sound u × (Heeds b v c r u × Follows (fed b c r) u cs rs w))
+-- ---- a ledger of some kind L: how it is seen, and what posts taken one after another do to it
+abbrev pub Seen : Type 0 → Type 0
+Seen L = L → View
+
+abbrev pub Took : Type 0 → Type 1
+Took L = L → List Post → L → Type 0
+
+-- A list of calls on the ledger x, which is z after them: between two calls the ledger is one of its kind, that has taken the posts of the call before.
+abbrev pub Follows : {L : Type 0} → Seen L → Took L → Book → L → List Call → List Answered → L → Type 0
+Follows view took b x [] [] z = z ≡ x
+Follows view took b x [] (r ∷ rs) z = ⊥
+Follows view took b x (c ∷ cs) [] z = ⊥
+Follows {L = L} view took b x (c ∷ cs) (r ∷ rs) z =
+    (y : L) × (Sound (view y) × (took x (made_posts (told b) c r) y × (Heeds b (view x) c r (view y) × Follows view took (fed b c r) y cs rs z)))
 
 -- ---- what the accounts gained
 abbrev pub is_settled : State → Bool
@@ -66,16 +74,16 @@ Least fs p =
     p.state ≡ state.Settled → (k : ℕ) (o : Offer) → k < length fs → (slice_index_or p.entries k absent).offer ≡ Some o →
     LeastPaid (operation_of (slice_index_or fs k no_facility) (told_entry (slice_index_or p.entries k absent)) (told_offer o)) (priced_page fs p).price
 
--- ---- the law: n blank sheets and the ledger v before the calls, the day d and the ledger w after them
-pub record Law (n : ℕ) (v : View) (cs : List Call) (rs : List Answered) (d : Day) (w : View) : Type 0 where
+-- ---- the law: n blank sheets and the ledger x before the calls, the day d and the ledger z after them
+pub record Law {L : Type 0} (view : Seen L) (took : Took L) (n : ℕ) (x : L) (cs : List Call) (rs : List Answered) (d : Day) (z : L) : Type 0 where
   -- the sum over all the ledger's accounts is what it was
-  pub sum : ledger_sum w ≡ ledger_sum v
+  pub sum : ledger_sum (view z) ≡ ledger_sum (view x)
   -- each call was refused exactly where the table refuses it
-  pub heeded : Follows (blank n) v cs rs w
+  pub heeded : Follows view took (blank n) x cs rs z
   -- register and sheets hold what the book holds
   pub holds : d ≡ told (kept (blank n) cs rs)
   -- each balance has gained the account's nets over the settled sheets
-  pub gained : Gained v (λ a. gains (kept (blank n) cs rs).facilities a (kept (blank n) cs rs).pages) w
+  pub gained : Gained (view x) (λ a. gains (kept (blank n) cs rs).facilities a (kept (blank n) cs rs).pages) (view z)
   pub whole : AllByRecursion (Whole (kept (blank n) cs rs).facilities) (kept (blank n) cs rs).pages
   pub least : AllByRecursion (Least (kept (blank n) cs rs).facilities) (kept (blank n) cs rs).pages
 
@@ -86,11 +94,12 @@ written b (c ∷ cs) [] = []
 written b (c ∷ cs) (r ∷ rs) = made_posts (told b) c r ++ written (fed b c r) cs rs
 
 -- ---- the same calls on any register and sheets: each does what its own contract says
-abbrev pub Goes : Day → View → List Call → List Answered → Day → View → Type 0
-Goes d v [] [] e w = (e ≡ d) × (w ≡ v)
-Goes d v [] (r ∷ rs) e w = ⊥
-Goes d v (c ∷ cs) [] e w = ⊥
-Goes d v (c ∷ cs) (r ∷ rs) e w = (f : Day) × ((u : View) × (Sound u × (Does (λ x. x) d v c r f u × Goes f u cs rs e w)))
+abbrev pub Goes : {L : Type 0} → Seen L → Took L → Day → L → List Call → List Answered → Day → L → Type 0
+Goes view took d x [] [] e z = (e ≡ d) × (z ≡ x)
+Goes view took d x [] (r ∷ rs) e z = ⊥
+Goes view took d x (c ∷ cs) [] e z = ⊥
+Goes {L = L} view took d x (c ∷ cs) (r ∷ rs) e z =
+    (f : Day) × ((y : L) × (Sound (view y) × (took x (made_posts d c r) y × (Does (λ x. x) d (view x) c r f (view y) × Goes view took f y cs rs e z))))
 
 -- the day after a call with its answer
 abbrev pub day_after : Day → Call → Answered → Day

@@ -2,5 +2,5 @@
 #![tactic(auto)]
 
 pub mod run;
-pub mod step;
+mod step;
 pub mod whole;

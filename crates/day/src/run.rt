@@ -20,8 +20,8 @@ pub fn run<L: Ledger>(
     ledger: &mut L,
     calls: &[Call],
 ) -> Result<Vec<Result<Answer, Refusal>>, AllocError>
-    ensures law { held register.old sheets.old ≡ told (blank (length sheets.old)) → IfOk result (λ answers. Law (length sheets.old) (L.view ledger.old) calls.now answers.items (held register.new sheets.new) (L.view ledger.new)) }
-    ensures goes { IfOk result (λ answers. Goes (held register.old sheets.old) (L.view ledger.old) calls.now answers.items (held register.new sheets.new) (L.view ledger.new)) }
+    ensures law { held register.old sheets.old ≡ told (blank (length sheets.old)) → IfOk result (λ answers. Law L.view L.took (length sheets.old) ledger.old calls.now answers.items (held register.new sheets.new) ledger.new) }
+    ensures goes { IfOk result (λ answers. Goes L.view L.took (held register.old sheets.old) ledger.old calls.now answers.items (held register.new sheets.new) ledger.new) }
     ensures written { held register.old sheets.old ≡ told (blank (length sheets.old)) → IfOk result (λ answers. L.took ledger.old (written (blank (length sheets.old)) calls.now answers.items) ledger.new) }
     ensures posts { IfOk result (λ answers. L.took ledger.old (posts_made (held register.old sheets.old) calls.now answers.items) ledger.new) }
     ensures untouched { OnErr result ((register.new ≡ register.old) × (sheets.new ≡ sheets.old) × (ledger.new ≡ ledger.old)) }

@@ -21,7 +21,7 @@ pub fn whole_day<L: Ledger>(
     ledger: &mut L,
     calls: &[Call],
 ) -> Result<Vec<Result<Answer, Refusal>>, AllocError>
-    ensures law { IfOk result (λ answers. (fs : List Facility) × ((o : Option Prices) × Law (length sheets.old) (L.view ledger.old) calls.now answers.items (record { facilities = fs; prices = o; rows = sheets.new }) (L.view ledger.new))) }
+    ensures law { IfOk result (λ answers. (fs : List Facility) × ((o : Option Prices) × Law L.view L.took (length sheets.old) ledger.old calls.now answers.items (record { facilities = fs; prices = o; rows = sheets.new }) ledger.new)) }
     ensures written { IfOk result (λ answers. L.took ledger.old (written (blank (length sheets.old)) calls.now answers.items) ledger.new) }
     ensures unmade { OnErr result ((sheets.new ≡ replicate (length sheets.old) blank_row) × (ledger.new ≡ ledger.old)) }
 {

@@ -1,58 +1,129 @@
--- What is told of a plan over its ledger is what the day file asks for.
-use Rattle.std.proofs.Common.{◌≡◌, ℕ, min, if◌then◌else◌, List, [], ◌++◌, length, take, drop, Some, None, IfOk, Ok, Err, Result, append-nil, refl, sym, ap, ◌∙◌, subst, arith}
-use Rattle.std.proofs.lemmas.List.{length-map}
-use Rattle.std.proofs.Math.Seq.{take-append_seam}
-use Rattle.ledger.specs.View.{View}
+-- What is told over a ledger is told over its balances, or over its lines.
+use Rattle.std.proofs.Common.{◌≡◌, ℕ, min, if◌then◌else◌, List, [], ◌∷◌, ◌++◌, length, take, Some, None, Ok, Err, IfOk, Result, ℤ, pos, replicate, append-nil, refl, sym, ap, ◌∙◌, subst}
+use Rattle.ledger.specs.View.{View, Sound}
 use Rattle.ledger.specs.Posting.{Post}
+use Rattle.ledger.specs.Rows.{Gained}
+use Rattle.ledger.specs.Sums.{ledger_sum}
+use Rattle.ledgers.specs.declared.limit.CreditLimit.{CreditLimit}
+use Rattle.ledgers.specs.declared.table.AccountTable.{AccountTable}
 use Rattle.ledgers.specs.Limits.{limited}
+use Rattle.ledgers.specs.Tables.{table_view}
+use Rattle.journal.specs.declared.journal.Journal.{Journal}
 use Rattle.journal.specs.declared.line.Line.{Line}
-use Rattle.journal.specs.Extending.{line_of, lines_of, Extended}
-use Rattle.journal.specs.Lines.{journal_view, lines_view}
-use Rattle.day.specs.Book.{blank}
-use Rattle.day.specs.Law.{Law, written}
+use Rattle.journal.specs.Extending.{lines_of, Extended, front_stands}
+use Rattle.journal.specs.Lines.{room, journal_view, lines_view}
+use Rattle.pool.specs.declared.call.Call.{Call}
+use Rattle.pool.specs.Day.{Day}
+use Rattle.day.specs.Book.{Book, Answered, fed}
+use Rattle.day.specs.Law.{Heeds, Follows, Law}
+use Rattle.day_file.specs.declared.plan.Asked.{Asked}
 use Rattle.day_file.specs.declared.plan.Plan.{Plan}
 use Rattle.day_file.specs.Plans.{told}
-use Rattle.day_file.specs.Reports.{lines_from}
-use Rattle.day_file.specs.Settles.{first_ledger, posts_text, Tells, SettlesPlan}
-
--- a journal without a line
-pub first_journal : (memory : List Line) (used n : ℕ) → used ≡ 0 → length memory ≡ n → journal_view memory used ≡ first_ledger (Some n)
-first_journal memory used n u l = ap (journal_view memory) u ∙ ap (λ k. lines_view (min k 4096) []) l
-
--- the lines of a journal that had none
-pub all_posted : (before : List Line) (ps : List Post) (after : List Line) (n m : ℕ) → n ≡ 0 → Extended before n ps after m → take m after ≡ lines_of ps
-all_posted before ps after n m u g =
-    let rest = drop m before in
-    let front : take n before ++ lines_of ps ≡ lines_of ps = ap (λ k. take k before ++ lines_of ps) u in
-    let count : m ≡ length (lines_of ps) = omega (arith, g.used, u, length-map ps line_of) in
-    ap (take m) (g.lines ∙ ap (λ ls. ls ++ rest) front) ∙ ap (λ k. take k (lines_of ps ++ rest)) count ∙ take-append_seam (lines_of ps) rest
-
--- the lines are those of the posts taken, and stand behind the rest where there is a journal and they are asked for
-module _ (plan : Plan) (v w : View) (took : List Post → Type 0) (first : List ℕ) (t : Tells plan.terms.sheets plan.calls.items plan.asked.items v w took first) where
-  abbrev posts : List Post
-  posts = written (blank plan.terms.sheets) plan.calls.items t.answers
-
-  settles : (text : List ℕ) → v ≡ limited plan.terms.limits (first_ledger plan.terms.journal) → text ≡ first ++ posts_text plan.terms.journal plan.terms.print posts → SettlesPlan (told plan) text
-  settles text s e = record {
-    calls = plan.calls.items;
-    answers = t.answers;
-    day = t.day;
-    after = w;
-    said = refl;
-    law = subst (λ (u : View). Law plan.terms.sheets u plan.calls.items t.answers t.day w) s t.law;
-    told = e ∙ ap (λ (x : List ℕ). x ++ posts_text plan.terms.journal plan.terms.print posts) t.told;
-  }
-
-  pub settles_table : plan.terms.journal ≡ None → v ≡ limited plan.terms.limits (first_ledger None) → SettlesPlan (told plan) first
-  settles_table j s =
-      settles first (s ∙ ap (λ k. limited plan.terms.limits (first_ledger k)) (sym j)) (sym (append-nil first) ∙ ap (λ k. first ++ posts_text k plan.terms.print posts) (sym j))
-
-  pub settles_journal : (n : ℕ) (lines : List Line) (text : List ℕ) → plan.terms.journal ≡ Some n → v ≡ limited plan.terms.limits (first_ledger (Some n)) → lines ≡ lines_of posts
-      → text ≡ first ++ (if plan.terms.print then lines_from 1 lines else []) → SettlesPlan (told plan) text
-  settles_journal n lines text j s l e =
-      settles text (s ∙ ap (λ k. limited plan.terms.limits (first_ledger k)) (sym j))
-      (e ∙ ap (λ ls. first ++ (if plan.terms.print then lines_from 1 ls else [])) l ∙ ap (λ k. first ++ posts_text k plan.terms.print posts) (sym j))
+use Rattle.day_file.specs.Reports.{balances_text, answers_text, lines_from}
+use Rattle.day_file.specs.Settles.{Tells, Prints, PrintsOver, table_seen, unlisted, journal_seen, line_by_line}
 
 pub if_ok : {X E : Type 0} {P Q : X → Type 0} (r : Result X E) → IfOk r P → ((x : X) → P x → Q x) → IfOk r Q
 if_ok (Ok x) p f = f x p
 if_ok (Err e) p f = tt
+
+gained_seen : (v v' w w' : View) (f : ℕ → ℤ) → v ≡ v' → w ≡ w' → Gained v f w → Gained v' f w'
+gained_seen v v' w w' f p q g = subst (λ (u : View). Gained u f w') p (subst (λ (u : View). Gained v f u) q g)
+
+-- ---- a ledger by what is read off it: where it keeps something, it is seen as that, and posts do to it what they do to that
+module _ {L M : Type 0} (view : L → View) (took : L → List Post → L → Type 0) (seen : M → View) (does : M → List Post → M → Type 0)
+    (read : L → M) (Keeps : L → Type 0) (same : (x : L) → Keeps x → view x ≡ seen (read x))
+    (on : (x : L) (ps : List Post) (y : L) → Keeps x → took x ps y → Keeps y × does (read x) ps (read y)) where
+  follows_read : (b : Book) (x : L) (cs : List Call) (rs : List Answered) (z : L) → Keeps x → Follows view took b x cs rs z → Keeps z × Follows seen does b (read x) cs rs (read z)
+  follows_read b x [] [] z k g = (subst Keeps (sym g) k, ap read g)
+  follows_read b x [] (r ∷ rs) z k g = absurd g
+  follows_read b x (c ∷ cs) [] z k g = absurd g
+  follows_read b x (c ∷ cs) (r ∷ rs) z k g =
+      let y = g.0 in
+      let o = on x _ y k g.1.1.0 in
+      let rest = follows_read (fed b c r) y cs rs z o.0 g.1.1.1.1 in
+      let heeds = subst (λ (u : View). Heeds b u c r (seen (read y))) (same x k) (subst (λ (u : View). Heeds b (view x) c r u) (same y o.0) g.1.1.1.0) in
+      (rest.0, (read y, (subst Sound (same y o.0) g.1.0, (o.1, (heeds, rest.1)))))
+
+  pub tells_read : (sheets : ℕ) (calls : List Call) (asked : List Asked) (x z : L) (text : List ℕ) → Keeps x → Tells view took sheets calls asked x z text
+      → Keeps z × Tells seen does sheets calls asked (read x) (read z) text
+  tells_read sheets calls asked x z text k t =
+      let l = t.law in
+      let f = follows_read _ x calls t.answers z k l.heeded in
+      let now = same x k in
+      let end = same z f.0 in (
+        f.0,
+        record {
+          answers = t.answers;
+          day = t.day;
+          law = record {
+            sum = sym (ap ledger_sum end) ∙ l.sum ∙ ap ledger_sum now;
+            heeded = f.1;
+            holds = l.holds;
+            gained = gained_seen _ _ _ _ _ now end l.gained;
+            whole = l.whole;
+            least = l.least;
+          };
+          told = t.told ∙ ap (λ (u : View). answers_text asked t.answers ++ balances_text u) end;
+        },
+      )
+
+-- ---- the account table, by its balances
+abbrev Table : Type 0
+Table = CreditLimit AccountTable
+
+abbrev table_sees : Table → View
+table_sees x = limited x.limits (table_view x.below.balances)
+
+abbrev table_takes : Table → List Post → Table → Type 0
+table_takes x ps y = Unit {0} × (y.limits ≡ x.limits)
+
+pub settles_table : (plan : Plan) (x z : Table) (text : List ℕ) → plan.terms.journal ≡ None → x.limits ≡ plan.terms.limits → x.below.balances ≡ replicate 12 (pos 0)
+    → Tells table_sees table_takes plan.terms.sheets plan.calls.items plan.asked.items x z text → PrintsOver plan.terms.journal (told plan) text
+settles_table plan x z text none limits zero t =
+    let all = plan.terms.limits in
+    let balances : Table → List ℤ = λ s. s.below.balances in
+    let read = tells_read table_sees table_takes (table_seen all) unlisted balances (λ s. s.limits ≡ all) (λ s k. ap (λ ls. limited ls (table_view s.below.balances)) k) (λ s ps y k h. (h.1 ∙ k, tt))
+    plan.terms.sheets plan.calls.items plan.asked.items x z text limits t
+    in subst (λ j. PrintsOver j (told plan) text) (sym none) (record {
+      calls = plan.calls.items;
+      said = refl;
+      last = balances z;
+      first = text;
+      tells = subst (λ (zs : List ℤ). Tells (table_seen all) unlisted plan.terms.sheets plan.calls.items plan.asked.items zs (balances z) text) zero read.1;
+      printed = sym (append-nil text);
+    })
+
+-- ---- a journal, by its lines
+abbrev Lines : Type 0
+Lines = CreditLimit Journal
+
+abbrev lines_see : Lines → View
+lines_see x = limited x.limits (journal_view x.below.lines.now x.below.used)
+
+abbrev lines_take : Lines → List Post → Lines → Type 0
+lines_take x ps y =
+    (Extended x.below.lines.now x.below.used ps y.below.lines.now y.below.used × (y.below.lines.ghost_name ≡ x.below.lines.ghost_name)) × (y.limits ≡ x.limits)
+
+abbrev pub written : Journal → List Line
+written j = take j.used j.lines.now
+
+pub settles_journal : (plan : Plan) (n : ℕ) (x z : Lines) (first text : List ℕ) → plan.terms.journal ≡ Some n → x.limits ≡ plan.terms.limits → x.below.used ≡ 0 → length x.below.lines.now ≡ n
+    → Tells lines_see lines_take plan.terms.sheets plan.calls.items plan.asked.items x z first → text ≡ first ++ (if plan.terms.print then lines_from 1 (written z.below) else [])
+    → PrintsOver plan.terms.journal (told plan) text
+settles_journal plan n x z first text some limits none long t e =
+    let all = plan.terms.limits in
+    let lines : Lines → List Line = λ s. written s.below in
+    let read = tells_read lines_see lines_take (journal_seen all n) line_by_line lines (λ s. (s.limits ≡ all) × (room s.below.lines.now ≡ min n 4096))
+    (λ s k. ap (λ ls. limited ls (journal_view s.below.lines.now s.below.used)) k.0 ∙ ap (λ m. limited all (lines_view m (lines s))) k.1)
+    (λ s ps y k h. ((h.1 ∙ k.0, ap (λ m. min m 4096) h.0.0.size ∙ k.1), front_stands s.below.lines.now s.below.used ps y.below.lines.now y.below.used s.below.within h.0.0))
+    plan.terms.sheets plan.calls.items plan.asked.items x z first (limits, ap (λ m. min m 4096) long) t
+    in
+    let begun : lines x ≡ [] = ap (λ k. take k x.below.lines.now) none in
+    subst (λ j. PrintsOver j (told plan) text) (sym some) (record {
+      calls = plan.calls.items;
+      said = refl;
+      last = lines z;
+      first = first;
+      tells = subst (λ (ls : List Line). Tells (journal_seen all n) line_by_line plan.terms.sheets plan.calls.items plan.asked.items ls (lines z) first) begun read.1;
+      printed = e;
+    })

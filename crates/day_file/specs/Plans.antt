@@ -15,14 +15,14 @@ use Rattle.day_file.specs.declared.plan.Plan.{Plan}
 use Rattle.day_file.specs.Calls.{said, calling}
 
 -- ---- sheets, ledger and credit limits
-abbrev pub is_begun : Stage → Bool
-is_begun stage.Begun = true
-is_begun stage.Limits = false
-is_begun stage.Calls = false
+abbrev pub has_no_line : Stage → Bool
+has_no_line stage.NoLine = true
+has_no_line stage.NoCall = false
+has_no_line stage.Calls = false
 
 abbrev pub has_calls : Stage → Bool
-has_calls stage.Begun = false
-has_calls stage.Limits = false
+has_calls stage.NoLine = false
+has_calls stage.NoCall = false
 has_calls stage.Calls = true
 
 abbrev pub at_stage : Terms → Stage → Terms
@@ -30,23 +30,23 @@ at_stage t s = record { stage = s; sheets = t.sheets; limits = t.limits; journal
 
 -- 48 sheets, the account table, and no limit that binds
 abbrev pub blank_terms : Terms
-blank_terms = record { stage = stage.Begun; sheets = 48; limits = replicate 64 most; journal = None; print = false }
+blank_terms = record { stage = stage.NoLine; sheets = 48; limits = replicate 64 most; journal = None; print = false }
 
--- no `sheets` may come after any line
-abbrev pub begun : Terms → Terms
-begun t = if is_begun t.stage then at_stage t stage.Limits else t
+-- after a line that is no call; no `sheets` may come then
+abbrev pub past_a_line : Terms → Terms
+past_a_line t = if has_no_line t.stage then at_stage t stage.NoCall else t
 
 abbrev pub with_sheets : Terms → ℕ → Option Terms
 with_sheets t n =
-    if is_begun t.stage then Some (record { stage = stage.Limits; sheets = n; limits = t.limits; journal = t.journal; print = t.print }) else None
+    if has_no_line t.stage then Some (record { stage = stage.NoCall; sheets = n; limits = t.limits; journal = t.journal; print = t.print }) else None
 
 abbrev pub with_limit : Terms → ℕ → ℤ → Option Terms
 with_limit t a c =
-    if has_calls t.stage then None else Some (record { stage = stage.Limits; sheets = t.sheets; limits = slice_set t.limits a c; journal = t.journal; print = t.print })
+    if has_calls t.stage then None else Some (record { stage = stage.NoCall; sheets = t.sheets; limits = slice_set t.limits a c; journal = t.journal; print = t.print })
 
 abbrev pub with_journal : Terms → ℕ → Option Terms
 with_journal t n =
-    if has_calls t.stage then None else Some (record { stage = stage.Limits; sheets = t.sheets; limits = t.limits; journal = Some n; print = t.print })
+    if has_calls t.stage then None else Some (record { stage = stage.NoCall; sheets = t.sheets; limits = t.limits; journal = Some n; print = t.print })
 
 -- without a journal there is nothing to print
 abbrev pub printing : Terms → Option Terms
@@ -62,7 +62,7 @@ abbrev pub blank_plan : Planned
 blank_plan = record { terms = blank_terms; calls = []; asked = [] }
 
 abbrev pub refused : Planned → ℕ → Planned
-refused p n = record { terms = begun p.terms; calls = p.calls; asked = p.asked ++ (asked.NotACall n ∷ []) }
+refused p n = record { terms = past_a_line p.terms; calls = p.calls; asked = p.asked ++ (asked.NotACall n ∷ []) }
 
 abbrev pub with_terms : Planned → ℕ → Option Terms → Planned
 with_terms p n (Some t) = record { terms = t; calls = p.calls; asked = p.asked }

@@ -18,8 +18,8 @@ pub fn pairs_in(line: DayLine) -> usize
     }
 }
 
-// Kept: a line owns nothing lent and can be kept, a call lends its pairs; one type for both would be generic over the pairs at each of ten cases.
 // The call that a line makes with its pairs, if it makes one.
+// Kept: a line is plain data, a call borrows its pairs; one type for both would be generic over the pairs at each of ten cases.
 pub fn call_of<'a>(line: DayLine, pairs: &'a [Pair]) -> Option<Call<'a>>
     requires { length pairs.now ≡ pairs_in_spec line }
     ensures { option_map said result ≡ calling line pairs.now }

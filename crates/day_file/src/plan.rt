@@ -51,7 +51,7 @@ impl<'a> Plan<'a> {
     fn not_a_call(&mut self, number: u64) -> Result<(), AllocError>
         ensures { OnOk result (told self.new ≡ refused (told self.old) number) }
     {
-        self.terms = self.terms.begun();
+        self.terms = self.terms.past_a_line();
         self.asked.push(Asked::NotACall(number))?;
         Ok(())
     }

@@ -1,7 +1,7 @@
 // A day file settled: its text in, the text of its answers out.
 ghost use Rattle.std.specs.Prelude.{◌≡◌, IfOk, Some, None};
 ghost use Rattle.day_file.specs.Plans.{told};
-ghost use Rattle.day_file.specs.Settles.{Tells, SettlesPlan, Settles};
+ghost use Rattle.day_file.specs.Settles.{Tells, PrintsOver, Settles};
 
 use crate::plan::Plan;
 use crate::reading::plan;
@@ -17,8 +17,8 @@ use sheets::row::Row;
 use std::alloc::{AllocError, Global};
 
 // Makes the calls over the ledger, and tells what they answer and the balances after them.
-fn tell<L: Ledger>(heap: Global, plan: &Plan, ledger: &mut L) -> Result<Vec<u8>, AllocError>
-    ensures { IfOk result (λ text. Tells plan.now.terms.sheets plan.now.calls.items plan.now.asked.items (L.view ledger.old) (L.view ledger.new) (λ ps. L.took ledger.old ps ledger.new) text.items) }
+fn settle_over<L: Ledger>(heap: Global, plan: &Plan, ledger: &mut L) -> Result<Vec<u8>, AllocError>
+    ensures { IfOk result (λ text. Tells L.view L.took plan.now.terms.sheets plan.now.calls.items plan.now.asked.items ledger.old ledger.new text.items) }
 {
     let mut rows = vec![in heap; Row::blank(); plan.terms.sheets]?;
     let answers = whole_day(heap, rows.as_mut_slice(), ledger, plan.calls.as_slice())?;
@@ -30,16 +30,16 @@ fn tell<L: Ledger>(heap: Global, plan: &Plan, ledger: &mut L) -> Result<Vec<u8>,
 
 fn over_table(heap: Global, plan: &Plan) -> Result<Vec<u8>, AllocError>
     requires { plan.now.terms.journal ≡ None }
-    ensures { IfOk result (λ text. SettlesPlan (told plan.now) text.items) }
+    ensures { IfOk result (λ text. PrintsOver plan.now.terms.journal (told plan.now) text.items) }
 {
     let mut ledger = CreditLimit::new(AccountTable::new(), plan.terms.limits);
-    tell(heap, plan, &mut ledger)
+    settle_over(heap, plan, &mut ledger)
 }
 
 // The journal's lines are told behind the balances where the plan asks for them.
 fn over_journal(heap: Global, plan: &Plan, lines: u32) -> Result<Vec<u8>, AllocError>
     requires { plan.now.terms.journal ≡ Some lines }
-    ensures { IfOk result (λ text. SettlesPlan (told plan.now) text.items) }
+    ensures { IfOk result (λ text. PrintsOver plan.now.terms.journal (told plan.now) text.items) }
 {
     let unused = Line {
         account: 0,
@@ -48,7 +48,7 @@ fn over_journal(heap: Global, plan: &Plan, lines: u32) -> Result<Vec<u8>, AllocE
     let mut memory = vec![in heap; unused; lines as usize]?;
     let journal = Journal::new(memory.as_mut_slice());
     let mut ledger = CreditLimit::new(journal, plan.terms.limits);
-    let mut text = tell(heap, plan, &mut ledger)?;
+    let mut text = settle_over(heap, plan, &mut ledger)?;
     let journal = ledger.into_below();
     if plan.terms.print {
         push_journal(&mut text, journal.posted())?;

@@ -8,9 +8,9 @@ use ledger::accounts::MOST;
 #[derive(Clone, Copy, PartialEq, Eq, Debug)]
 pub enum Stage {
     // No line but blank ones.
-    Begun,
-    // No call.
-    Limits,
+    NoLine,
+    // Lines, but no call.
+    NoCall,
     Calls,
 }
 
@@ -31,7 +31,7 @@ impl Terms {
         ensures { result ≡ plans.blank_terms }
     {
         Terms {
-            stage: Stage::Begun,
+            stage: Stage::NoLine,
             sheets: 48,
             limits: [MOST; 64],
             journal: None,
@@ -45,12 +45,12 @@ impl Terms {
         Terms { stage, ..self }
     }
 
-    // No `sheets` may come after any line.
-    pub fn begun(self) -> Terms
-        ensures { result ≡ plans.begun self }
+    // After a line that is no call; no `sheets` may come then.
+    pub fn past_a_line(self) -> Terms
+        ensures { result ≡ plans.past_a_line self }
     {
-        if self.stage == Stage::Begun {
-            self.at(Stage::Limits)
+        if self.stage == Stage::NoLine {
+            self.at(Stage::NoCall)
         } else {
             self
         }
@@ -61,9 +61,9 @@ impl Terms {
         ensures { result ≡ plans.with_sheets self count }
     {
         let sheets = count as usize;
-        (self.stage == Stage::Begun).then_some(Terms {
+        (self.stage == Stage::NoLine).then_some(Terms {
             sheets,
-            ..self.at(Stage::Limits)
+            ..self.at(Stage::NoCall)
         })
     }
 
@@ -79,7 +79,7 @@ impl Terms {
         }
         (self.stage != Stage::Calls).then_some(Terms {
             limits,
-            ..self.at(Stage::Limits)
+            ..self.at(Stage::NoCall)
         })
     }
 
@@ -89,7 +89,7 @@ impl Terms {
     {
         (self.stage != Stage::Calls).then_some(Terms {
             journal: Some(lines),
-            ..self.at(Stage::Limits)
+            ..self.at(Stage::NoCall)
         })
     }
 

@@ -1,4 +1,4 @@
-// The text of a day file: what each of its lines says, and the text of what is answered.
+// The text of a day file: what each of its lines says.
 #![tactic(auto)]
 
 mod arguments;

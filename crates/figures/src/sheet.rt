@@ -7,6 +7,7 @@ use sheets::register::Register;
 use sheets::row::{Figures, Row, State};
 use sheets::sheet::Sheet;
 
+// The capacity holds the curve of either station.
 fn facility(account: u32, s: &Setting) -> Facility {
     Facility {
         account,

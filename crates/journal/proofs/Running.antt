@@ -95,6 +95,6 @@ one_more ls u zs a x within twelve run spans ok =
       slots = simp length-set twelve;
       running = subst (Running (set zs a (get_or zs a (pos 0) +ℤ x))) (sym more) (running_push (take u ls) a x zs twelve here run);
       spans = subst Spans (sym more) (spans_push (take u ls) a x sum spans);
-      extended = record { used = omega arith; lines = line_written ls u a x (omega arith) };
+      extended = record { used = omega arith; lines = line_written ls u a x (omega arith); size = length-set ls u (one_line a x) };
       posted = journal_posted ls u a x free;
     }

@@ -1,6 +1,6 @@
 -- What posts leave in the memory: their lines behind those that stood there, and all else as it was.
 use Rattle.std.specs.Prelude.{◌≡◌, ℕ, ◌+◌, ◌≤◌, List, [], ◌++◌, map, length, take, drop}
-use Rattle.std.proofs.Common.{sym, ap, ◌∙◌, add_assoc, add-zero}
+use Rattle.std.proofs.Common.{refl, sym, ap, ◌∙◌, add_assoc, add-zero}
 use Rattle.std.proofs.Math.Nat.{le_trans, min-le_left}
 use Rattle.std.proofs.Math.Seq.{drop-append-add}
 use Rattle.std.proofs.lemmas.List.{append_assoc, append-nil, map-append, length-append, length-map, length-take-le, take-append-drop, take_at, drop-drop}
@@ -18,11 +18,13 @@ lines_of ps = map line_of ps
 pub record Extended (before : List Line) (n : ℕ) (ps : List Post) (after : List Line) (m : ℕ) : Type 0 where
   pub used : m ≡ n + length ps
   pub lines : after ≡ (take n before ++ lines_of ps) ++ drop m before
+  pub size : length after ≡ length before
 
 pub extended_none : (ls : List Line) (n : ℕ) → Extended ls n [] ls n
 extended_none ls n = record {
   used = sym (add-zero n);
   lines = sym (ap (λ xs. xs ++ drop n ls) (append-nil (take n ls)) ∙ take-append-drop n ls);
+  size = refl;
 }
 
 module _ (xs : List Line) (n : ℕ) (ps : List Post) (ys : List Line) (m : ℕ) (within : n ≤ room xs) (g : Extended xs n ps ys m) where
@@ -36,7 +38,7 @@ module _ (xs : List Line) (n : ℕ) (ps : List Post) (ys : List Line) (m : ℕ) 
       ∙ ap (λ k. n + k) (length-map ps line_of)
       ∙ sym g.used
 
-  front_stands : take m ys ≡ front
+  pub front_stands : take m ys ≡ front
   front_stands = ap (take m) g.lines ∙ take_at front (drop m xs) m front_length
 
   module _ (qs : List Post) (zs : List Line) (k : ℕ) (h : Extended ys m qs zs k) where
@@ -56,4 +58,5 @@ module _ (xs : List Line) (n : ℕ) (ps : List Post) (ys : List Line) (m : ℕ) 
     extended_more = record {
       used = h.used ∙ ap (λ j. j + length qs) g.used ∙ add_assoc n (length ps) (length qs) ∙ ap (λ j. n + j) (sym (length-append ps qs));
       lines = h.lines ∙ ap (λ ls. ls ++ drop k ys) joined ∙ ap (λ ls. (take n xs ++ lines_of (ps ++ qs)) ++ ls) behind;
+      size = h.size ∙ g.size;
     }

@@ -1,11 +1,11 @@
-// Settles a day: a day file on standard input, an answer for each call and the balances on standard output.
+// Settles a day: a day file on standard input, what it is answered on standard output.
 #![tactic(auto)]
 
 use day_file::settled::settle;
 use std::io::{Read, Write};
 
 // The number of the line that the last byte stands on, or that would come next.
-fn number_of_lines(text: &[u8]) -> usize {
+fn line_reached(text: &[u8]) -> usize {
     let ended = text.iter().filter(|b| **b == b'\n').count();
     ended.saturating_add(1)
 }
@@ -14,7 +14,7 @@ fn number_of_lines(text: &[u8]) -> usize {
 fn read_input(rt: &HostRuntime) -> anyhow::Result<Vec<u8>> {
     let mut text = Vec::new(rt.alloc());
     rt.stdin().read_to_end(&mut text).map_err(|error| {
-        let line = number_of_lines(text.as_slice());
+        let line = line_reached(text.as_slice());
         anyhow::anyhow!("cannot read line {line} of the day file: {error}")
     })?;
     Ok(text)

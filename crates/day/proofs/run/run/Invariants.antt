@@ -5,8 +5,7 @@ use Rattle.day.proofs.run.run.Given as goal
 
 abbrev pub invariant-loop-call : goal.invariant-loop-call
 invariant-loop-call g l =
-    let view = g.L.Accounts.view in
     (vec_len l.answers ≡ l.call-index)
     × ((length l.calls ≤ vec_capacity l.answers)
     × (g.L.Ledger.took l.initial.ledger (posts_made (held l.initial.register l.initial.sheets) (take l.call-index l.calls) (vec_items l.answers)) l.ledger
-    × Goes (held l.initial.register l.initial.sheets) (view l.initial.ledger) (take l.call-index l.calls) (vec_items l.answers) (held l.register l.sheets) (view l.ledger)))
+    × Goes g.L.Accounts.view g.L.Ledger.took (held l.initial.register l.initial.sheets) l.initial.ledger (take l.call-index l.calls) (vec_items l.answers) (held l.register l.sheets) l.ledger))

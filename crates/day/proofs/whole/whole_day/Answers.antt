@@ -23,16 +23,17 @@ returns g c =
     let n : length rows ≡ m = c.fill.ensures.len in
     let cleared : rows ≡ replicate m blank_row = search rules in
     let p = blank_held c.blank-register.result rows (length rows) c.blank-register.ensures.facilities c.blank-register.ensures.prices (cleared ∙ ap (λ k. replicate k blank_row) (sym n)) in
-    let v = view c.args.ledger.now in
-    let w = view c.run.new.ledger in
+    let took = g.L.Ledger.took in
+    let x = c.args.ledger.now in
+    let z = c.run.new.ledger in
     let end = c.run.new.register in
     let d = held end c.run.new.sheets in
     let cs = c.args.calls.now in
     let Took : List Post → Type 0 = λ ps. g.L.Ledger.took c.args.ledger.now ps c.run.new.ledger in
     record {
-      law = IfOk-weaker c.run.result (λ answers. Law (length rows) v cs (vec_items answers) d w)
-          (λ answers. (fs : List Facility) × ((o : Option Prices) × Law m v cs (vec_items answers) (record { facilities = fs; prices = o; rows = c.run.new.sheets }) w))
-          (λ answers k. (known end, (end.prices, subst (λ (i : ℕ). Law i v cs (vec_items answers) d w) n k)))
+      law = IfOk-weaker c.run.result (λ answers. Law view took (length rows) x cs (vec_items answers) d z)
+          (λ answers. (fs : List Facility) × ((o : Option Prices) × Law view took m x cs (vec_items answers) (record { facilities = fs; prices = o; rows = c.run.new.sheets }) z))
+          (λ answers k. (known end, (end.prices, subst (λ (i : ℕ). Law view took i x cs (vec_items answers) d z) n k)))
           (c.run.ensures.law p);
       written = IfOk-weaker c.run.result (λ answers. Took (written (blank (length rows)) cs (vec_items answers))) (λ answers. Took (written (blank m) cs (vec_items answers)))
           (λ answers k. subst (λ (i : ℕ). Took (written (blank i) cs (vec_items answers))) n k)
