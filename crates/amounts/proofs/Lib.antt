@@ -6,3 +6,4 @@ pub mod Bounds
 pub mod Levies
 pub mod Tallies
 pub mod Made
+pub mod Readings

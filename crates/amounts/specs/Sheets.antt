@@ -9,8 +9,9 @@ use Rattle.sheets.specs.declared.row.Figures.{Figures}
 use Rattle.sheets.specs.declared.row.Row.{Row}
 use Rattle.sheets.specs.declared.sheet.Sheet.{Sheet}
 use Rattle.sheets.specs.Held.{known}
-use Rattle.sheets.specs.Changes.{table}
-use Rattle.sheets.specs.Sheets.{reaches, has_load}
+use Rattle.sheets.specs.Shown.{row_of, register_of}
+use Rattle.sheets.specs.Changes.{table, takes_reading}
+use Rattle.sheets.specs.Sheets.{reaches, has_load, with_reading}
 use Rattle.amounts.specs.Amounts.{PricedSheet, nets}
 
 -- the balancing price by the merit order that close goes by; 0 stands for one that is not there, as on no sheet past close
@@ -53,7 +54,14 @@ abbrev pub Nets : Sheet → Option (List ℤ) → Type 0
 Nets s None = has_price s ≡ false
 Nets s (Some ns) = (has_price s ≡ true) × ((ns ≡ nets_in s) × (has_load s.row.positions ≡ true → row_sum ns ≡ pos 0))
 
--- the nets of a sheet less those of the sheet that it was, and nothing where one has no price
-abbrev pub Change : Sheet → Sheet → Option (List ℤ) → Type 0
-Change new old None = (has_price new && has_price old) ≡ false
-Change new old (Some xs) = ((has_price new && has_price old) ≡ true) × (xs ≡ changed (nets_in new) (nets_in old))
+-- a sheet with another reading of the facility at a place, and what that changes of its nets, each at its own price;
+-- nothing where the sheet would not take the reading, or has no price
+abbrev pub corrigible : Sheet → ℕ → ℕ → Bool
+corrigible s at n = takes_reading (register_of s) at n && has_price s
+
+abbrev pub Corrects : Sheet → ℕ → ℕ → Option (Sheet × List ℤ) → Type 0
+Corrects s at n None = corrigible s at n ≡ false
+Corrects s at n (Some x) =
+    (corrigible s at n ≡ true)
+    × ((row_of x.0 ≡ with_reading (row_of s) at n)
+    × ((register_of x.0 ≡ register_of s) × (x.1 ≡ changed (nets_in x.0) (nets_in s))))

@@ -5,11 +5,12 @@ ghost use Rattle.ledger.specs.Sums.{row_sum};
 ghost use Rattle.sheets.specs.Sheets.{has_load};
 ghost use Rattle.amounts.specs.Amounts as amounts;
 ghost use Rattle.amounts.specs.Held.{held};
-ghost use Rattle.amounts.specs.Sheets.{changed, Nets, Change};
+ghost use Rattle.amounts.specs.Sheets.{changed, held_at, Nets, Corrects};
 ghost use Rattle.amounts.specs.Tallies.{Small, Tallied, near, net_from, no_amounts};
 
 use crate::account::{Account, Amounts, AtPrice, levied, loads_of};
 use merit::price::balancing_price;
+use schedule::span::BalancingPrice;
 use sheets::sheet::Sheet;
 
 // The amounts of all accounts by number, the pool's net, and all compensation.
@@ -112,19 +113,24 @@ fn less(new: &[i64; 12], old: &[i64; 12]) -> [i64; 12]
     )
 }
 
-// The nets of a sheet less those of the sheet that it was; nothing where one of them has no price.
-pub fn change(new: &Sheet, old: &Sheet) -> Option<[i64; 12]>
-    ensures { Change new.now old.now result }
+// The nets of a sheet less those of another, both at one price.
+fn changes_at(price: BalancingPrice, new: &Sheet, old: &Sheet) -> [i64; 12]
+    ensures { result ≡ changed (amounts.nets (held_at new.now price.cents))
+        (amounts.nets (held_at old.now price.cents)) }
 {
-    let (now_at, _) = balancing_price(new)?;
-    let (was_at, _) = balancing_price(old)?;
-    let nets = nets_at(AtPrice {
-        sheet: new,
-        price: now_at,
-    });
-    let were = nets_at(AtPrice {
-        sheet: old,
-        price: was_at,
-    });
-    Some(less(&nets, &were))
+    let nets = nets_at(AtPrice { sheet: new, price });
+    let were = nets_at(AtPrice { sheet: old, price });
+    less(&nets, &were)
+}
+
+// The sheet with another reading, in kWmin, of the facility at a place, and what that changes of its nets: new less old, by account.
+// Nothing where there is no such facility, the reading lies outside its span, or the sheet has no price.
+pub fn correction<'a>(sheet: Sheet<'a>, at: usize, kwmin: u32) -> Option<(Sheet<'a>, [i64; 12])>
+    ensures { Corrects sheet.entry at kwmin result }
+{
+    let corrected = sheet.with_reading(at, kwmin)?;
+    // One price for both, since no reading moves it.
+    let (price, _) = balancing_price(&sheet)?;
+    let changes = changes_at(price, &corrected, &sheet);
+    Some((corrected, changes))
 }

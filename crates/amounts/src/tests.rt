@@ -1,5 +1,5 @@
 // The sheet worked through: its nets, and what another reading changes of them.
-use crate::nets::{change, nets};
+use crate::nets::{correction, nets};
 use offers::curve::Curve;
 use offers::pair::Pair;
 use offers::submission::Submission;
@@ -78,9 +78,9 @@ fn nets_of(row: Row) -> Option<[i64; 12]> {
 
 fn changed_to(reading: u32) -> Option<[i64; 12]> {
     let register = two_stations()?;
-    let old = Sheet::checked(&register, worked(700_000)?)?;
-    let new = Sheet::checked(&register, worked(reading)?)?;
-    change(&new, &old)
+    let sheet = Sheet::checked(&register, worked(700_000)?)?;
+    let (_, changes) = correction(sheet, 0, reading)?;
+    Some(changes)
 }
 
 #[test]

@@ -20,7 +20,7 @@ answered wrap d v c (Err f) s e w h t = subst (λ (k : Answered). Does (λ x. x)
 -- 96 working rungs and more are checked alike
 enough_alike : (d : Day) (v : View) (i k : ℕ) → 96 ≤ k → table d v (Close i 96) ≡ table d v (Close i k)
 enough_alike d v i k h =
-    let Rest : Bool → Check = λ b. is_open d.prices then (interval_known d.rows i then (at_sheet d event.Close i then (unless b (refusal.Length k) then (has_demand (sheet d i).demand then (demand_reached (figures_on d i) (sheet d i).demand i then Ok tt))))) in
+    let Rest : Bool → Check = λ b. is_open d.prices then (interval_known d.rows i then (at_sheet d event.Close i then (unless b (refusal.TooFewRungs k) then (has_demand (sheet d i).demand then (demand_reached (figures_on d i) (sheet d i).demand i then Ok tt))))) in
     ap Rest (sym (le-leb 96 k h))
 
 alike : (d : Day) (v : View) (i k : ℕ) (r : Answered) (e : Day) (w : View) → 96 ≤ k → Does (λ x. x) d v (Close i 96) r e w → Does (λ x. x) d v (Close i k) r e w

@@ -67,7 +67,7 @@ lodge_sound fs None r f u w ps sound at few spans cap n h = h
 lodge_sound fs (Some z) r f u w ps sound at few spans cap n h =
     let x = facility_at fs f in
     sheet_lodge fs z r (f - 1) (submitted u w ps) at n
-    (submitted_sound z x u w ps (leb-true (length ps) 8 (test_passed (leb (length ps) 8) (refusal.Length (length ps)) few)) (sym spans) (all_at facility_sound fs (f - 1) no_facility at sound)
+    (submitted_sound z x u w ps (leb-true (length ps) 8 (test_passed (leb (length ps) 8) (refusal.TooManyPairs (length ps)) few)) (sym spans) (all_at facility_sound fs (f - 1) no_facility at sound)
     (leb-true (total (curve ps)) x.capacity (test_passed (leb (total (curve ps)) x.capacity) (refusal.Capacity f) cap)))
     h
 
@@ -114,7 +114,7 @@ standing_noted b v (Register a x c t) s e =
     let p = passed (checks (told b) v (Register a x c t)) e in
     let f : Facility = record { account = a; loss_factor = x; capacity = c; tolerance = t } in
     let fits_all = figures_pass 1 (facility_figures x c t) (sym p.1.1.1.0) in
-    let room = ltb-true (length b.facilities) 12 (test_passed (ltb (length b.facilities) 12) (refusal.Facility 12) p.1.0) in
+    let room = ltb-true (length b.facilities) 12 (test_passed (ltb (length b.facilities) 12) refusal.RegisterFull p.1.0) in
     record {
       facilities = all_push facility_sound b.facilities f s.facilities (and_both (account_fits a) (every (facility_figures x c t)) (test_passed (account_fits a) (refusal.Account a) p.1.1.0) fits_all);
       few = let n = length-append b.facilities (f ∷ []) in omega arith;

@@ -22,7 +22,7 @@ use Rattle.sheets.specs.declared.row.Event.{Event}
 use Rattle.sheets.specs.declared.row.Event.TheVariants as event
 use Rattle.sheets.specs.Tests.{within_int}
 use Rattle.sheets.specs.Spans.{account_fits, facility_figures, price_figures}
-use Rattle.sheets.specs.Sheets.{sheet_sound, next, no_facility, figures_at, ramp_fits, start_fits, reading_fits, contract_fits, load_fits, demand_fits, with_submission, with_start, with_reading, with_position, with_demand, with_state, reaches, complete, has_load}
+use Rattle.sheets.specs.Sheets.{sheet_sound, next, no_facility, figures_at, ramp_fits, start_fits, reading_fits, contract_fits, load_fits, demand_fits, with_submission, with_start, with_reading, with_position, with_demand, row_after, reaches, complete, has_load}
 use Rattle.sheets.specs.declared.row.Position as held
 use Rattle.merit.specs.Prices.{priced_at}
 use Rattle.amounts.specs.Sheets.{row_nets, changed}
@@ -49,7 +49,7 @@ is_open None = Err refusal.Sequence
 is_open (Some p) = Ok tt
 
 abbrev pub room : List Facility → Check
-room fs = unless (nat_lt (length fs) 12) (refusal.Facility 12)
+room fs = unless (nat_lt (length fs) 12) refusal.RegisterFull
 
 abbrev pub interval_known : List Row → ℕ → Check
 interval_known rows i = unless (nat_lt 0 i && (nat_le i (length rows) && nat_le i 48)) (refusal.Interval i)
@@ -83,7 +83,7 @@ put d i r = record { facilities = d.facilities; prices = d.prices; rows = slice_
 
 -- ---- lodging
 abbrev pub few_pairs : List Pair → Check
-few_pairs ps = unless (nat_le (length ps) 8) (refusal.Length (length ps))
+few_pairs ps = unless (nat_le (length ps) 8) (refusal.TooManyPairs (length ps))
 
 abbrev pub span : Option Prices → Prices
 span None = record { low = pos 0; high = pos 0 }
@@ -118,10 +118,10 @@ abbrev pub figures_on : Day → ℕ → List Figures
 figures_on d i = take (length d.facilities) (sheet d i).figures
 
 abbrev pub enough_rungs : ℕ → Check
-enough_rungs k = unless (nat_le 96 k) (refusal.Length k)
+enough_rungs k = unless (nat_le 96 k) (refusal.TooFewRungs k)
 
 abbrev pub has_demand : Option ℕ → Check
-has_demand None = Err (refusal.Missing 0)
+has_demand None = Err refusal.NoDemand
 has_demand (Some n) = Ok tt
 
 abbrev pub demand_reached : List Figures → Option ℕ → ℕ → Check
@@ -207,8 +207,8 @@ after d (Start f i n) = put d i (with_start (sheet d i) (f - 1) n)
 after d (Reading f i n) = put d i (with_reading (sheet d i) (f - 1) n)
 after d (Position a i c l) = put d i (with_position (sheet d i) (a - 1) (record { contract = c; load = l }))
 after d (Demand i n) = put d i (with_demand (sheet d i) n)
-after d (Close i k) = put d i (with_state (sheet d i) state.Closed)
-after d (Settle i) = put d i (with_state (sheet d i) state.Settled)
+after d (Close i k) = put d i (row_after (sheet d i) event.Close)
+after d (Settle i) = put d i (row_after (sheet d i) event.Settle)
 after d (Adjust f i n) = put d i (with_reading (sheet d i) (f - 1) n)
 
 -- the amounts that a taken call posts, account 0 first

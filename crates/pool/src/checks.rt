@@ -1,8 +1,9 @@
 // The checks that several calls share, each by the table's own definition.
 ghost use Rattle.std.specs.Prelude.{◌≡◌, ◌-◌, ◌<◌, true, [], ◌∷◌, length, Some, Ok, Err, MatchResult};
-ghost use Rattle.sheets.specs.Held.{known};
+ghost use Rattle.sheets.specs.Held.{known, prices_of};
 ghost use Rattle.sheets.specs.Changes.{comes};
-ghost use Rattle.pool.specs.Checks.{unless, told};
+ghost use Rattle.sheets.specs.Shown.{row_of, register_of};
+ghost use Rattle.pool.specs.Checks.{unless, told, Passes, IsPlaceOf};
 ghost use Rattle.pool.specs.Day.{not_open, is_open, room, interval_known, facility_known, account_known, in_state};
 
 use refusals::Refusal;
@@ -28,14 +29,14 @@ pub fn figure(position: u32, fits: bool) -> Result<(), Refusal>
 }
 
 pub fn before_open(register: &Register) -> Result<(), Refusal>
-    ensures { result ≡ not_open register.now.prices }
+    ensures { result ≡ not_open (prices_of register.now) }
 {
     unless(register.prices().is_none(), Refusal::Sequence)
 }
 
 // The day's prices, once it is open.
 pub fn after_open(register: &Register) -> Result<Prices, Refusal>
-    ensures { MatchResult result (λ z. register.now.prices ≡ Some z) (λ f. is_open register.now.prices ≡ Err f) }
+    ensures { Passes (is_open (prices_of register.now)) (λ z. prices_of register.now ≡ Some z) result }
 {
     register.prices().ok_or(Refusal::Sequence)
 }
@@ -43,7 +44,7 @@ pub fn after_open(register: &Register) -> Result<Prices, Refusal>
 pub fn has_room(register: &Register) -> Result<(), Refusal>
     ensures { result ≡ room (known register.now) }
 {
-    unless(register.facilities().len() < 12, Refusal::Facility(12))
+    unless(register.facilities().len() < 12, Refusal::RegisterFull)
 }
 
 pub fn known_account(account: u32) -> Result<(), Refusal>
@@ -54,7 +55,7 @@ pub fn known_account(account: u32) -> Result<(), Refusal>
 
 // The place of a facility in a table.
 pub fn facility_place(register: &Register, facility: u32) -> Result<usize, Refusal>
-    ensures { MatchResult result (λ k. (facility_known (known register.now) facility ≡ Ok tt) × ((k ≡ facility - 1) × (k < length (known register.now)))) (λ f. facility_known (known register.now) facility ≡ Err f) }
+    ensures { Passes (facility_known (known register.now) facility) (IsPlaceOf (known register.now) facility) result }
 {
     // Kept: each end is a test of its own, as the table has it; a range would need the number as a place first.
     let known = facility >= 1 && facility as usize <= register.facilities().len();
@@ -64,7 +65,7 @@ pub fn facility_place(register: &Register, facility: u32) -> Result<usize, Refus
 
 // The place of an interval's sheet.
 pub fn sheet_place(rows: &[Row], interval: u32) -> Result<usize, Refusal>
-    ensures { MatchResult result (λ i. (interval_known rows.now interval ≡ Ok tt) × ((i ≡ interval - 1) × (i < length rows.now))) (λ f. interval_known rows.now interval ≡ Err f) }
+    ensures { Passes (interval_known rows.now interval) (IsPlaceOf rows.now interval) result }
 {
     // Kept: the ends are tests of their own, as the table has them.
     let known = interval >= 1 && interval as usize <= rows.len() && interval <= 48;
@@ -79,7 +80,9 @@ pub fn sheet_for<'a>(
     event: Event,
     interval: u32,
 ) -> Result<Sheet<'a>, Refusal>
-    ensures { MatchResult result (λ s. (in_state (known register.now) register.now.prices row event interval ≡ Ok tt) × ((comes row event ≡ true) × ((s.row ≡ row) × (s.register.now ≡ register.now)))) (λ f. in_state (known register.now) register.now.prices row event interval ≡ Err f) }
+    ensures { Passes (in_state (known register.now) (prices_of register.now) row event interval)
+        (λ s. (comes row event ≡ true) × ((row_of s ≡ row) × (register_of s ≡ register.now)))
+        result }
 {
     let sheet = Sheet::checked(register, row).ok_or(Refusal::State(interval))?;
     sheet.next(event, interval)?;

@@ -2,6 +2,7 @@
 ghost use Rattle.std.specs.Prelude.{◌≡◌, ◌≤◌, length};
 ghost use Rattle.ledger.specs.View.{View};
 ghost use Rattle.sheets.specs.Changes as changes;
+ghost use Rattle.sheets.specs.Shown.{row_of, register_of};
 ghost use Rattle.pool.specs.declared.call.Call.TheVariants as call;
 ghost use Rattle.pool.specs.declared.call.Answer.TheVariants as answer;
 ghost use Rattle.pool.specs.Day.{Does, enough_rungs, has_demand, demand_reached};
@@ -19,18 +20,19 @@ use sheets::sheet::Sheet;
 fn rungs_suffice(rungs: usize) -> Result<(), Refusal>
     ensures { result ≡ enough_rungs rungs }
 {
-    unless(rungs >= 96, Refusal::Length(rungs))
+    unless(rungs >= 96, Refusal::TooFewRungs(rungs))
 }
 
 fn demand_there(demand: Option<u32>) -> Result<(), Refusal>
     ensures { result ≡ has_demand demand }
 {
-    unless(demand.is_some(), Refusal::Missing(0))
+    unless(demand.is_some(), Refusal::NoDemand)
 }
 
 // Whether the offers of the sheet reach its demand.
 fn offers_reach(sheet: &Sheet, interval: u32) -> Result<(), Refusal>
-    ensures { result ≡ demand_reached (changes.table sheet.now.register.now sheet.now.row) sheet.now.row.demand interval }
+    ensures { result ≡ demand_reached (changes.table (register_of sheet.now) (row_of sheet.now))
+        (row_of sheet.now).demand interval }
 {
     let offered = sheet.offered();
     let reached = sheet.demand().is_some_and(|kw| u64::from(kw) <= offered);
@@ -45,7 +47,8 @@ pub fn close(
     interval: u32,
     rungs: &mut [Rung],
 ) -> Result<(i64, u32), Refusal>
-    ensures does { (v : View) → Does (λ x. answer.Price x.0 x.1) (held register.now rows.old) v (call.Close interval (length rungs.old)) result (held register.now rows.new) v }
+    ensures does { (v : View) → Does (λ x. answer.Price x.0 x.1) (held register.now rows.old) v
+        (call.Close interval (length rungs.old)) result (held register.now rows.new) v }
     ensures work { rungs.new ≡ rungs_after (held register.now rows.old) interval rungs.old result }
 {
     after_open(register)?;

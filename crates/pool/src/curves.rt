@@ -1,7 +1,7 @@
 // What lodge makes of its ramps and pairs.
 ghost use Rattle.std.specs.Prelude.{◌≡◌, ◌≤◌, [], ◌∷◌, length, Ok, Err, MatchResult};
 ghost use Rattle.offers.specs.Curves.{total};
-ghost use Rattle.pool.specs.Checks.{figures};
+ghost use Rattle.pool.specs.Checks.{figures, Passes};
 ghost use Rattle.pool.specs.Day.{few_pairs, pair_figures, lodge_figures, in_capacity, submitted, lodged};
 
 use crate::call::Lodged;
@@ -12,10 +12,10 @@ use offers::submission::Submission;
 use refusals::Refusal;
 use sheets::facility::{Facility, Prices};
 
-pub fn not_too_many(pairs: &[Pair]) -> Result<(), Refusal>
+pub(crate) fn not_too_many(pairs: &[Pair]) -> Result<(), Refusal>
     ensures { result ≡ few_pairs pairs.now }
 {
-    unless(pairs.len() <= 8, Refusal::Length(pairs.len()))
+    unless(pairs.len() <= 8, Refusal::TooManyPairs(pairs.len()))
 }
 
 // The figures of one pair, from a position on.
@@ -38,7 +38,7 @@ fn pairs_in_span(prices: Prices, pairs: &[Pair]) -> Result<(), Refusal>
 }
 
 // The figures of a lodge: ramps, then pairs.
-pub fn lodge_in_span(
+pub(crate) fn lodge_in_span(
     prices: Prices,
     ramp_up: u32,
     ramp_down: u32,
@@ -53,7 +53,7 @@ pub fn lodge_in_span(
 }
 
 // The submission that ramps and pairs make, where the capacity holds it.
-pub fn submission_of(
+pub(crate) fn submission_of(
     facility: Facility,
     number: u32,
     ramp_up: u32,
@@ -62,7 +62,8 @@ pub fn submission_of(
 ) -> Result<Submission, Refusal>
     requires few { length pairs.now ≤ 8 }
     requires small { total pairs.now ≤ 4294967295 }
-    ensures { MatchResult result (λ s. (in_capacity facility number pairs.now ≡ Ok tt) × (s ≡ submitted ramp_up ramp_down pairs.now)) (λ f. in_capacity facility number pairs.now ≡ Err f) }
+    ensures { Passes (in_capacity facility number pairs.now)
+        (λ s. s ≡ submitted ramp_up ramp_down pairs.now) result }
 {
     let curve = Curve::of(pairs).unwrap();
     unless(
@@ -77,7 +78,7 @@ pub fn submission_of(
 }
 
 // What lodging a submission in the place of another is called.
-pub fn lodged_over(old: Option<Submission>, new: &Submission) -> Lodged
+pub(crate) fn lodged_over(old: Option<Submission>, new: &Submission) -> Lodged
     ensures { result ≡ lodged old new.now }
 {
     if old == Some(*new) {

@@ -31,7 +31,8 @@ pub fn start(
     interval: u32,
     kw: u32,
 ) -> Result<(), Refusal>
-    ensures { (v : View) → Does (λ _. answer.Set) (held register.now rows.old) v (call.Start facility interval kw) result (held register.now rows.new) v }
+    ensures { (v : View) → Does (λ _. answer.Set) (held register.now rows.old) v
+        (call.Start facility interval kw) result (held register.now rows.new) v }
 {
     after_open(register)?;
     let at = sheet_place(rows, interval)?;
@@ -57,7 +58,8 @@ pub fn reading(
     interval: u32,
     kwmin: u32,
 ) -> Result<(), Refusal>
-    ensures { (v : View) → Does (λ _. answer.Set) (held register.now rows.old) v (call.Reading facility interval kwmin) result (held register.now rows.new) v }
+    ensures { (v : View) → Does (λ _. answer.Set) (held register.now rows.old) v
+        (call.Reading facility interval kwmin) result (held register.now rows.new) v }
 {
     after_open(register)?;
     let at = sheet_place(rows, interval)?;
@@ -84,7 +86,8 @@ pub fn position(
     interval: u32,
     position: Position,
 ) -> Result<(), Refusal>
-    ensures { (v : View) → Does (λ _. answer.Set) (held register.now rows.old) v (call.Position account interval position.contract position.load) result (held register.now rows.new) v }
+    ensures { (v : View) → Does (λ _. answer.Set) (held register.now rows.old) v
+        (call.Position account interval position.contract position.load) result (held register.now rows.new) v }
 {
     after_open(register)?;
     let at = sheet_place(rows, interval)?;
@@ -104,7 +107,8 @@ fn demand_in_span(kw: u32) -> Result<(), Refusal>
 
 // Keeps the demand.
 pub fn demand(register: &Register, rows: &mut [Row], interval: u32, kw: u32) -> Result<(), Refusal>
-    ensures { (v : View) → Does (λ _. answer.Set) (held register.now rows.old) v (call.Demand interval kw) result (held register.now rows.new) v }
+    ensures { (v : View) → Does (λ _. answer.Set) (held register.now rows.old) v
+        (call.Demand interval kw) result (held register.now rows.new) v }
 {
     after_open(register)?;
     let at = sheet_place(rows, interval)?;

@@ -25,7 +25,9 @@ pub fn lodge(
     ramp_down: u32,
     pairs: &[Pair],
 ) -> Result<Lodged, Refusal>
-    ensures { (v : View) → Does answer.Lodging (held register.now rows.old) v (call.Lodge facility interval ramp_up ramp_down pairs.entry) result (held register.now rows.new) v }
+    ensures { (v : View) → Does answer.Lodging (held register.now rows.old) v
+        (call.Lodge facility interval ramp_up ramp_down pairs.entry) result
+        (held register.now rows.new) v }
 {
     let prices = after_open(register)?;
     let at = sheet_place(rows, interval)?;

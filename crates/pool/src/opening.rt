@@ -31,7 +31,8 @@ pub fn register(
     capacity: u32,
     tolerance: u32,
 ) -> Result<u32, Refusal>
-    ensures { (v : View) (rows : List Row) → Does answer.Number (held register.old rows) v (call.Register account loss_factor capacity tolerance) result (held register.new rows) v }
+    ensures { (v : View) (rows : List Row) → Does answer.Number (held register.old rows) v
+        (call.Register account loss_factor capacity tolerance) result (held register.new rows) v }
 {
     before_open(register)?;
     has_room(register)?;
@@ -59,7 +60,8 @@ fn prices_in_span(prices: Prices) -> Result<(), Refusal>
 
 // Opens the day.
 pub fn open(register: &mut Register, prices: Prices) -> Result<(), Refusal>
-    ensures { (v : View) (rows : List Row) → Does (λ _. answer.Opened) (held register.old rows) v (call.Open prices.low prices.high) result (held register.new rows) v }
+    ensures { (v : View) (rows : List Row) → Does (λ _. answer.Opened) (held register.old rows) v
+        (call.Open prices.low prices.high) result (held register.new rows) v }
 {
     before_open(register)?;
     prices_in_span(prices)?;

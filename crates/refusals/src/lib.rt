@@ -14,19 +14,25 @@ pub enum Refusal {
     Sequence,
     // There is no sheet for this interval.
     Interval(u32),
-    // This facility is not registered; or there are twelve already.
+    // This facility is not registered.
     Facility(u32),
+    // Twelve facilities are registered already.
+    RegisterFull,
     // This account is none of 1 to 11.
     Account(u32),
     // The interval's sheet has no state, or not one in which the call may come.
     State(u32),
-    // A list of this length is too long, or lent memory of this length too short.
-    Length(usize),
+    // So many pairs are more than eight.
+    TooManyPairs(usize),
+    // So many working rungs are fewer than 96.
+    TooFewRungs(usize),
     // The figure at this position lies outside its span.
     Figure(u32),
     // The curve offers more than this facility's capacity.
     Capacity(u32),
-    // This facility lacks a figure that settling asks for; 0: there is no demand.
+    // There is no demand.
+    NoDemand,
+    // This facility lacks a figure that settling asks for.
     Missing(u32),
     // The offers of this interval do not reach its demand.
     Short(u32),
@@ -53,24 +59,25 @@ impl Refusal {
         match self {
             Refusal::Sequence => 1,
             Refusal::Interval(_) => 2,
-            Refusal::Facility(_) => 3,
+            Refusal::Facility(_) | Refusal::RegisterFull => 3,
             Refusal::Account(_) => 4,
             Refusal::State(_) => 5,
-            Refusal::Length(_) => 6,
+            Refusal::TooManyPairs(_) | Refusal::TooFewRungs(_) => 6,
             Refusal::Figure(_) => 7,
             Refusal::Capacity(_) => 8,
-            Refusal::Missing(_) => 9,
+            Refusal::NoDemand | Refusal::Missing(_) => 9,
             Refusal::Short(_) => 10,
             Refusal::NoLoad(_) => 11,
             Refusal::Posting(_) => 12,
         }
     }
 
+    // The place that the table gives the case: what is at fault, or how many there are.
     pub fn place(self) -> usize
         ensures { result ≡ refusal_place self }
     {
         match self {
-            Refusal::Sequence => 0,
+            Refusal::Sequence | Refusal::NoDemand => 0,
             Refusal::Interval(interval)
             | Refusal::State(interval)
             | Refusal::Short(interval)
@@ -79,7 +86,8 @@ impl Refusal {
             | Refusal::Capacity(facility)
             | Refusal::Missing(facility) => facility as usize,
             Refusal::Account(account) => account as usize,
-            Refusal::Length(length) => length,
+            Refusal::RegisterFull => 12,
+            Refusal::TooManyPairs(length) | Refusal::TooFewRungs(length) => length,
             Refusal::Figure(position) => position as usize,
             Refusal::Posting(row) => row.place,
         }

@@ -5,7 +5,7 @@ ghost use Rattle.pool.specs.Day.{Does, made_posts};
 ghost use Rattle.pool.specs.Held.{held};
 
 use crate::posting::post_amounts;
-use amounts::nets::change;
+use amounts::nets::correction;
 use ledger::accounts::Ledger;
 use pool::checks::{after_open, facility_place, sheet_for, sheet_place};
 use pool::figures::reading_in_span;
@@ -31,8 +31,7 @@ pub fn adjust<L: Ledger>(
     let place = facility_place(register, facility)?;
     let sheet = sheet_for(register, rows[at], Event::Adjust, interval)?;
     reading_in_span(kwmin)?;
-    let corrected = sheet.with_reading(place, kwmin).unwrap();
-    let changes = change(&corrected, &sheet).unwrap();
+    let (corrected, changes) = correction(sheet, place, kwmin).unwrap();
     let posts = post_amounts(ledger, &changes)?;
     rows[at] = corrected.row();
     Ok(posts)

@@ -14,24 +14,24 @@ use Rattle.sheets.specs.declared.sheet.Sheet.{Sheet}
 use Rattle.sheets.specs.Tests.{if_some}
 use Rattle.sheets.specs.Spans.{facility_sound, prices_sound}
 use Rattle.sheets.specs.Sheets.{submission_sound, start_fits, reading_fits, demand_fits, position_fits, reaches, complete, has_load, next, no_facility}
-use Rattle.sheets.specs.Held.{known}
+use Rattle.sheets.specs.Held.{known, prices_of}
 
 -- ---- a register
 abbrev pub takes_facility : Register → Facility → Bool
-takes_facility g f = not (is_some g.prices) && (nat_lt (length (known g)) 12 && facility_sound f)
+takes_facility g f = not (is_some (prices_of g)) && (nat_lt (length (known g)) 12 && facility_sound f)
 
 abbrev pub Added : Register → Facility → Option ℕ → Register → Type 0
 Added g f None h = (takes_facility g f ≡ false) × (h ≡ g)
 Added g f (Some n) h =
     (takes_facility g f ≡ true)
-    × ((n ≡ length (known g) + 1) × ((known h ≡ known g ++ (f ∷ [])) × (h.prices ≡ g.prices)))
+    × ((n ≡ length (known g) + 1) × ((known h ≡ known g ++ (f ∷ [])) × (prices_of h ≡ prices_of g)))
 
 abbrev pub takes_prices : Register → Prices → Bool
-takes_prices g z = not (is_some g.prices) && prices_sound z
+takes_prices g z = not (is_some (prices_of g)) && prices_sound z
 
 abbrev pub Opened : Register → Prices → Bool → Register → Type 0
 Opened g z false h = (takes_prices g z ≡ false) × (h ≡ g)
-Opened g z true h = (takes_prices g z ≡ true) × ((known h ≡ known g) × (h.prices ≡ Some z))
+Opened g z true h = (takes_prices g z ≡ true) × ((known h ≡ known g) × (prices_of h ≡ Some z))
 
 -- ---- a sheet
 -- a sheet of this register with this row, exactly where the test holds
@@ -52,9 +52,10 @@ submission_fits g i s = is_some g.prices && if_some (λ z. submission_sound z (s
 abbrev pub takes_submission : Register → Row → ℕ → Submission → Bool
 takes_submission g r i s = comes r Lodge && (registered g i && submission_fits g i s)
 
-abbrev pub takes_start : Register → ℕ → ℕ → Bool
-takes_start g i n = registered g i && start_fits n
+abbrev pub takes_start : Register → Row → ℕ → ℕ → Bool
+takes_start g r i n = comes r Figure && (registered g i && start_fits n)
 
+-- in any state: a reading comes before the sheet is settled, its correction after
 abbrev pub takes_reading : Register → ℕ → ℕ → Bool
 takes_reading g i n = registered g i && reading_fits n
 

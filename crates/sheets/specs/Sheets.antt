@@ -1,5 +1,5 @@
 -- When a row is a sheet that has a state.
-use Rattle.std.specs.Prelude.{ℕ, ◌+◌, Bool, true, false, cond, ◌&&◌, List, [], ◌∷◌, length, take, replicate, ℤ, pos, negsuc, is_some, Some, None, Option, nat_le, nat_lt, slice_index_or, slice_set}
+use Rattle.std.specs.Prelude.{ℕ, ◌+◌, Bool, true, false, cond, ◌&&◌, List, [], ◌∷◌, length, take, replicate, ℤ, pos, negsuc, is_some, Some, None, Option, unwrap_or, nat_le, nat_lt, slice_index_or, slice_set}
 use Rattle.std.specs.List.{list_any}
 use Rattle.offers.specs.declared.pair.Pair.{Pair}
 use Rattle.offers.specs.declared.submission.Submission.{Submission}
@@ -156,6 +156,10 @@ with_position r k p = record { state = r.state; figures = r.figures; demand = r.
 
 abbrev pub with_state : Row → State → Row
 with_state r s = record { state = s; figures = r.figures; demand = r.demand; positions = r.positions }
+
+-- the row in the state that an event leads to; as it was where the event has no place in its state
+abbrev pub row_after : Row → Event → Row
+row_after r e = with_state r (unwrap_or (next r.state e) r.state)
 
 -- a sheet before any call
 abbrev pub blank_row : Row

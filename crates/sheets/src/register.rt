@@ -1,13 +1,13 @@
-// The register: the facilities of the pool, and the day's prices once it is open.
-ghost use Rattle.std.specs.Prelude.{◌≡◌, ◌≤◌, true, length, take};
+//! The register: the facilities of the pool, and the day's prices once it is open.
+ghost use Rattle.std.specs.Prelude.{◌≡◌, ◌≤◌, true, [], length, take, None};
 ghost use Rattle.offers.specs.Tests.{all};
 ghost use Rattle.sheets.specs.Tests.{if_some};
 ghost use Rattle.sheets.specs.Spans.{facility_sound, prices_sound};
 
 use crate::facility::{Facility, Prices};
+use crate::spans::{facility_sound, prices_sound};
 
-// Every register that exists keeps the spans.
-// Kept: a plain Copy value with no heap, so the facilities are an array and their number.
+/// The facilities of the pool, and the day's prices. Every register that exists keeps the spans.
 #[derive(Clone, Copy)]
 pub struct Register {
     facilities: [Facility; 12],
@@ -19,4 +19,64 @@ pub struct Register {
     ghost priced: { if_some prices_sound prices ≡ true },
 }
 
-pub mod acts;
+impl Register {
+    ghost use Rattle.sheets.specs.Held.{known, prices_of};
+    ghost use Rattle.sheets.specs.Changes.{Added, Opened};
+
+    /// A register with no facility, of a day that is not open.
+    pub fn blank() -> Register
+        ensures facilities { known result ≡ [] }
+        ensures prices { prices_of result ≡ None }
+    {
+        Register {
+            facilities: [Facility::default(); 12],
+            count: 0,
+            prices: None,
+        }
+    }
+
+    /// The facilities, in the order of their numbers.
+    pub fn facilities(&self) -> &[Facility]
+        ensures value { result.now ≡ known self.now }
+        ensures few { length result.now ≤ 12 }
+    {
+        &self.facilities[..self.count]
+    }
+
+    /// The day's prices, once it is open.
+    pub fn prices(&self) -> Option<Prices>
+        ensures { result ≡ prices_of self.now }
+    {
+        self.prices
+    }
+
+    /// Adds a facility and returns its number.
+    ///
+    /// Returns `None`, and changes nothing, where the day is open, there are twelve facilities, or a
+    /// figure lies outside its span.
+    pub fn add(&mut self, facility: Facility) -> Option<u32>
+        ensures { Added self.old facility result self.new }
+    {
+        let at = self.count;
+        if self.prices.is_some() || at >= 12 || !facility_sound(facility) {
+            return None;
+        }
+        self.facilities[at] = facility;
+        self.count = at + 1;
+        Some(at as u32 + 1)
+    }
+
+    /// Opens the day, and returns whether it did.
+    ///
+    /// It changes nothing where the day is open already, or the prices are outside their span or out
+    /// of order.
+    pub fn open(&mut self, prices: Prices) -> bool
+        ensures { Opened self.old prices result self.new }
+    {
+        if self.prices.is_some() || !prices_sound(prices) {
+            return false;
+        }
+        self.prices = Some(prices);
+        true
+    }
+}

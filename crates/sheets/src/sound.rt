@@ -9,13 +9,13 @@ use crate::row::{Figures, Position, Row, State};
 use offers::pair::Pair;
 use offers::submission::Submission;
 
-pub fn position_fits(p: Position) -> bool
+pub(crate) fn position_fits(p: Position) -> bool
     ensures { result ≡ position_fits p }
 {
     (-60_000_000..=60_000_000).contains(&p.contract) && p.load <= 60_000_000
 }
 
-pub fn positions_fit(positions: &[Position]) -> bool
+pub(crate) fn positions_fit(positions: &[Position]) -> bool
     ensures { result ≡ all position_fits positions.now }
 {
     positions.iter().all(|p| position_fits(*p))
@@ -39,7 +39,7 @@ fn ramp_fits(x: u32) -> bool
     (1..=1_000_000).contains(&x)
 }
 
-pub fn submission_sound(prices: Prices, facility: Facility, s: &Submission) -> bool
+pub(crate) fn submission_sound(prices: Prices, facility: Facility, s: &Submission) -> bool
     ensures { result ≡ submission_sound prices facility s.now }
 {
     ramp_fits(s.ramp_up)
@@ -49,19 +49,19 @@ pub fn submission_sound(prices: Prices, facility: Facility, s: &Submission) -> b
         && s.curve.kw() <= u64::from(facility.capacity)
 }
 
-pub fn start_fits(start: Option<u32>) -> bool
+pub(crate) fn start_fits(start: Option<u32>) -> bool
     ensures { result ≡ if_some start_fits start }
 {
     start.is_none_or(|kw| kw <= 1_000_000)
 }
 
-pub fn reading_fits(reading: Option<u32>) -> bool
+pub(crate) fn reading_fits(reading: Option<u32>) -> bool
     ensures { result ≡ if_some reading_fits reading }
 {
     reading.is_none_or(|kwmin| kwmin <= 30_000_000)
 }
 
-pub fn demand_fits(demand: Option<u32>) -> bool
+pub(crate) fn demand_fits(demand: Option<u32>) -> bool
     ensures { result ≡ if_some demand_fits demand }
 {
     demand.is_none_or(|kw| (1..=12_000_000).contains(&kw))
@@ -82,7 +82,7 @@ fn figures_sound(prices: Prices, facility: Facility, figures: Figures) -> bool
 }
 
 // The figures of each registered facility.
-pub fn table_sound(prices: Prices, facilities: &[Facility], table: &[Figures]) -> bool
+pub(crate) fn table_sound(prices: Prices, facilities: &[Facility], table: &[Figures]) -> bool
     requires { length facilities.now ≤ length table.now }
     ensures { result ≡ all2 (figures_sound prices) facilities.now table.now }
 {
@@ -98,13 +98,13 @@ fn offer_of(submission: Option<Submission>) -> u64
     submission.map_or(0, |s| s.curve.kw())
 }
 
-pub fn all_complete(table: &[Figures]) -> bool
+pub(crate) fn all_complete(table: &[Figures]) -> bool
     ensures { result ≡ all complete table.now }
 {
     table.iter().all(|figures| figures.is_complete())
 }
 
-pub fn any_load(positions: &[Position]) -> bool
+pub(crate) fn any_load(positions: &[Position]) -> bool
     ensures { result ≡ has_load positions.now }
 {
     positions.iter().any(|p| p.load > 0)
@@ -112,7 +112,7 @@ pub fn any_load(positions: &[Position]) -> bool
 
 // The kW that all facilities of a table offer.
 // Kept: `Sheet::figures` gives a plain slice; a type for at most twelve would be taken apart in these three bodies.
-pub fn offers_of(table: &[Figures]) -> u64
+pub(crate) fn offers_of(table: &[Figures]) -> u64
     requires { length table.now ≤ 12 }
     ensures { result ≡ offers table.now }
 {
@@ -123,7 +123,7 @@ pub fn offers_of(table: &[Figures]) -> u64
 }
 
 // Whether there is a demand, and the offers reach it.
-pub fn demand_reached(table: &[Figures], demand: Option<u32>) -> bool
+pub(crate) fn demand_reached(table: &[Figures], demand: Option<u32>) -> bool
     requires { length table.now ≤ 12 }
     ensures { result ≡ reaches table.now demand }
 {
@@ -131,7 +131,7 @@ pub fn demand_reached(table: &[Figures], demand: Option<u32>) -> bool
 }
 
 // Whether a row has what its state asks, of its first n facilities.
-pub fn stage_sound(n: usize, row: &Row) -> bool
+pub(crate) fn stage_sound(n: usize, row: &Row) -> bool
     requires { n ≤ 12 }
     ensures { result ≡ stage_sound n row.now }
 {

@@ -5,7 +5,7 @@ ghost use Rattle.sheets.specs.Spans.{facility_sound, prices_sound, price_fits};
 
 use crate::facility::{Facility, Prices};
 
-pub fn facility_sound(f: Facility) -> bool
+pub(crate) fn facility_sound(f: Facility) -> bool
     ensures { result ≡ facility_sound f }
 {
     (1..=11).contains(&f.account)
@@ -20,7 +20,7 @@ fn price_fits(x: i32) -> bool
     (-100_000..=100_000).contains(&x)
 }
 
-pub fn prices_sound(p: Prices) -> bool
+pub(crate) fn prices_sound(p: Prices) -> bool
     ensures { result ≡ prices_sound p }
 {
     price_fits(p.low) && price_fits(p.high) && p.low <= p.high

@@ -3,7 +3,8 @@ ghost use Rattle.std.specs.Prelude.{◌≡◌, ◌≤◌, length};
 ghost use Rattle.std.specs.Option.{ok_or};
 ghost use Rattle.refusals.specs.declared.Refusal.TheVariants as refusal;
 ghost use Rattle.sheets.specs.Sheets.{sheet_sound, next, offers, has_load};
-ghost use Rattle.sheets.specs.Held.{known};
+ghost use Rattle.sheets.specs.Held.{known, prices_of};
+ghost use Rattle.sheets.specs.Shown.{row_of, register_of};
 ghost use Rattle.sheets.specs.Changes.{Becomes, table};
 
 use crate::facility::Facility;
@@ -14,7 +15,7 @@ use crate::sound::{any_load, demand_fits, offers_of, positions_fit, stage_sound,
 use refusals::Refusal;
 
 fn row_sound(register: &Register, row: &Row) -> bool
-    ensures { result ≡ sheet_sound (known register.now) register.now.prices row.now }
+    ensures { result ≡ sheet_sound (known register.now) (prices_of register.now) row.now }
 {
     let facilities = register.facilities();
     register
@@ -28,7 +29,8 @@ fn row_sound(register: &Register, row: &Row) -> bool
 impl<'a> Sheet<'a> {
     // The row as a sheet; nothing where it has no state.
     pub fn checked(register: &'a Register, row: Row) -> Option<Sheet<'a>>
-        ensures { Becomes (sheet_sound (known register.now) register.now.prices row) register.now row result }
+        ensures { Becomes (sheet_sound (known register.now) (prices_of register.now) row)
+            register.now row result }
     {
         if !row_sound(register, &row) {
             return None;
@@ -36,15 +38,16 @@ impl<'a> Sheet<'a> {
         Some(Sheet { register, row })
     }
 
+    // The row, to be written back.
     pub fn row(&self) -> Row
-        ensures { result ≡ self.now.row }
+        ensures { result ≡ row_of self.now }
     {
         self.row
     }
 
     // The next state, or the refusal of an event that has no place in this one.
     pub fn next(&self, event: Event, interval: u32) -> Result<State, Refusal>
-        ensures { result ≡ ok_or (next self.now.row.state event) (refusal.State interval) }
+        ensures { result ≡ ok_or (next (row_of self.now).state event) (refusal.State interval) }
     {
         // Kept: one `match` on state and event together is the table of states as one reads it.
         match (self.row.state, event) {
@@ -61,7 +64,7 @@ impl<'a> Sheet<'a> {
 impl<'a> Sheet<'a> {
     // The registered facilities, in the order of their numbers.
     pub fn facilities(&self) -> &[Facility]
-        ensures value { result.now ≡ known self.now.register.now }
+        ensures value { result.now ≡ known (register_of self.now) }
         ensures few { length result.now ≤ 12 }
     {
         self.register.facilities()
@@ -69,8 +72,8 @@ impl<'a> Sheet<'a> {
 
     // Their figures.
     pub fn figures(&self) -> &[Figures]
-        ensures value { result.now ≡ table self.now.register.now self.now.row }
-        ensures each { length result.now ≡ length (known self.now.register.now) }
+        ensures value { result.now ≡ table (register_of self.now) (row_of self.now) }
+        ensures each { length result.now ≡ length (known (register_of self.now)) }
     {
         let n = self.register.facilities().len();
         &self.row.figures[..n]
@@ -78,27 +81,28 @@ impl<'a> Sheet<'a> {
 
     // The positions of accounts 1 to 11.
     pub fn positions(&self) -> &[Position]
-        ensures { result.now ≡ self.now.row.positions }
+        ensures { result.now ≡ (row_of self.now).positions }
     {
         &self.row.positions
     }
 
     // Whether somebody has a load.
     pub fn has_load(&self) -> bool
-        ensures { result ≡ has_load self.now.row.positions }
+        ensures { result ≡ has_load (row_of self.now).positions }
     {
         any_load(&self.row.positions)
     }
 
+    // The demand in kW, where there is one.
     pub fn demand(&self) -> Option<u32>
-        ensures { result ≡ self.now.row.demand }
+        ensures { result ≡ (row_of self.now).demand }
     {
         self.row.demand
     }
 
     // The kW of all offers.
     pub fn offered(&self) -> u64
-        ensures { result ≡ offers (table self.now.register.now self.now.row) }
+        ensures { result ≡ offers (table (register_of self.now) (row_of self.now)) }
     {
         offers_of(self.figures())
     }

@@ -1,11 +1,12 @@
 // One thing of a sheet changed by value. Nothing is answered where the sheet would not take the change.
 // Kept: the changes have one form, but each its own test, field and contract; one function with closures would state a contract over each.
 ghost use Rattle.std.specs.Prelude.{◌≡◌};
-ghost use Rattle.sheets.specs.declared.row.State.TheVariants as state;
-ghost use Rattle.sheets.specs.Sheets.{with_submission, with_start, with_reading, with_demand, with_position, with_state};
+ghost use Rattle.sheets.specs.declared.row.Event.TheVariants.{Close, Settle};
+ghost use Rattle.sheets.specs.Sheets.{next, with_submission, with_start, with_reading, with_demand, with_position, row_after};
 ghost use Rattle.sheets.specs.Changes.{Becomes, comes, takes_submission, takes_start, takes_reading, takes_demand, takes_position, may_close, may_settle};
+ghost use Rattle.sheets.specs.Shown.{row_of, register_of};
 
-use crate::row::{Event, Position, State};
+use crate::row::{Event, Figures, Position, State};
 use crate::sheet::Sheet;
 use crate::sound::{
     all_complete, demand_fits, demand_reached, position_fits, reading_fits, start_fits,
@@ -14,15 +15,23 @@ use crate::sound::{
 use offers::submission::Submission;
 
 impl<'a> Sheet<'a> {
-    fn comes(&self, event: Event) -> bool
-        ensures { result ≡ comes self.now.row event }
+    // The state that an event leads to.
+    fn after(&self, event: Event) -> Option<State>
+        ensures { result ≡ next (row_of self.now).state event }
     {
-        self.next(event, 0).is_ok()
+        self.next(event, 0).ok()
     }
 
-    // Another submission of the facility at a place.
+    fn comes(&self, event: Event) -> bool
+        ensures { result ≡ comes (row_of self.now) event }
+    {
+        self.after(event).is_some()
+    }
+
+    // Another submission of the facility at a place, which the open sheet takes.
     pub fn with_submission(self, at: usize, submission: Submission) -> Option<Sheet<'a>>
-        ensures { Becomes (takes_submission self.entry.register.now self.entry.row at submission) self.entry.register.now (with_submission self.entry.row at submission) result }
+        ensures { Becomes (takes_submission (register_of self.entry) (row_of self.entry) at submission)
+            (register_of self.entry) (with_submission (row_of self.entry) at submission) result }
     {
         let prices = self.register.prices()?;
         let facility = self.facilities().get(at)?;
@@ -30,37 +39,50 @@ impl<'a> Sheet<'a> {
             return None;
         }
         let Sheet { register, mut row } = self;
-        row.figures[at].submission = Some(submission);
+        row.figures[at] = Figures {
+            submission: Some(submission),
+            ..row.figures[at]
+        };
         Some(Sheet { register, row })
     }
 
-    // Another start level of the facility at a place.
+    // Another start level of the facility at a place, in kW, until the sheet is settled.
     pub fn with_start(self, at: usize, kw: u32) -> Option<Sheet<'a>>
-        ensures { Becomes (takes_start self.entry.register.now at kw) self.entry.register.now (with_start self.entry.row at kw) result }
+        ensures { Becomes (takes_start (register_of self.entry) (row_of self.entry) at kw)
+            (register_of self.entry) (with_start (row_of self.entry) at kw) result }
     {
-        if at >= self.register.facilities().len() || !start_fits(Some(kw)) {
+        let registered = at < self.register.facilities().len();
+        if !self.comes(Event::Figure) || !registered || !start_fits(Some(kw)) {
             return None;
         }
         let Sheet { register, mut row } = self;
-        row.figures[at].start = Some(kw);
+        row.figures[at] = Figures {
+            start: Some(kw),
+            ..row.figures[at]
+        };
         Some(Sheet { register, row })
     }
 
-    // Another reading of the facility at a place.
+    // Another reading of the facility at a place, in kWmin; on a settled sheet it corrects the one before.
     pub fn with_reading(self, at: usize, kwmin: u32) -> Option<Sheet<'a>>
-        ensures { Becomes (takes_reading self.entry.register.now at kwmin) self.entry.register.now (with_reading self.entry.row at kwmin) result }
+        ensures { Becomes (takes_reading (register_of self.entry) at kwmin)
+            (register_of self.entry) (with_reading (row_of self.entry) at kwmin) result }
     {
         if at >= self.register.facilities().len() || !reading_fits(Some(kwmin)) {
             return None;
         }
         let Sheet { register, mut row } = self;
-        row.figures[at].reading = Some(kwmin);
+        row.figures[at] = Figures {
+            reading: Some(kwmin),
+            ..row.figures[at]
+        };
         Some(Sheet { register, row })
     }
 
-    // Another demand.
+    // Another demand in kW, which the open sheet takes.
     pub fn with_demand(self, kw: u32) -> Option<Sheet<'a>>
-        ensures { Becomes (takes_demand self.entry.row kw) self.entry.register.now (with_demand self.entry.row kw) result }
+        ensures { Becomes (takes_demand (row_of self.entry) kw)
+            (register_of self.entry) (with_demand (row_of self.entry) kw) result }
     {
         if !self.comes(Event::Demand) || !demand_fits(Some(kw)) {
             return None;
@@ -70,9 +92,10 @@ impl<'a> Sheet<'a> {
         Some(Sheet { register, row })
     }
 
-    // Another position of the account at a place.
+    // Another position of the account at a place, until the sheet is settled.
     pub fn with_position(self, at: usize, position: Position) -> Option<Sheet<'a>>
-        ensures { Becomes (takes_position self.entry.row at position) self.entry.register.now (with_position self.entry.row at position) result }
+        ensures { Becomes (takes_position (row_of self.entry) at position)
+            (register_of self.entry) (with_position (row_of self.entry) at position) result }
     {
         if !self.comes(Event::Figure) || at >= 11 || !position_fits(position) {
             return None;
@@ -84,25 +107,29 @@ impl<'a> Sheet<'a> {
 
     // The open sheet, closed.
     pub fn closed(self) -> Option<Sheet<'a>>
-        ensures { Becomes (may_close self.entry.register.now self.entry.row) self.entry.register.now (with_state self.entry.row state.Closed) result }
+        ensures { Becomes (may_close (register_of self.entry) (row_of self.entry))
+            (register_of self.entry) (row_after (row_of self.entry) Close) result }
     {
-        if !self.comes(Event::Close) || !demand_reached(self.figures(), self.row.demand) {
+        let state = self.after(Event::Close)?;
+        if !demand_reached(self.figures(), self.row.demand) {
             return None;
         }
         let Sheet { register, mut row } = self;
-        row.state = State::Closed;
+        row.state = state;
         Some(Sheet { register, row })
     }
 
     // The closed sheet, settled.
     pub fn settled(self) -> Option<Sheet<'a>>
-        ensures { Becomes (may_settle self.entry.register.now self.entry.row) self.entry.register.now (with_state self.entry.row state.Settled) result }
+        ensures { Becomes (may_settle (register_of self.entry) (row_of self.entry))
+            (register_of self.entry) (row_after (row_of self.entry) Settle) result }
     {
-        if !self.comes(Event::Settle) || !all_complete(self.figures()) || !self.has_load() {
+        let state = self.after(Event::Settle)?;
+        if !all_complete(self.figures()) || !self.has_load() {
             return None;
         }
         let Sheet { register, mut row } = self;
-        row.state = State::Settled;
+        row.state = state;
         Some(Sheet { register, row })
     }
 }

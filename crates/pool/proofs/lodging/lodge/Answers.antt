@@ -7,7 +7,7 @@ use Rattle.sheets.specs.declared.register.Register.{Register}
 use Rattle.sheets.specs.Spans.{facility_sound}
 use Rattle.sheets.specs.Sheets.{no_facility, ramp_fits, submission_sound}
 use Rattle.sheets.specs.Tests.{if_some}
-use Rattle.sheets.specs.Held.{known}
+use Rattle.sheets.specs.Held.{known, prices_of}
 use Rattle.sheets.specs.Changes.{comes, registered, submission_fits, takes_submission}
 use Rattle.sheets.proofs.Lists.{all_at}
 use Rattle.pool.specs.Day.{lodge_figures}
@@ -42,7 +42,7 @@ unwrap-sheet-requires c =
     let sound : facility_sound f ≡ true = all_at facility_sound (known g) i no_facility here g.spans in
     let cap : total (curve ps) ≤ f.capacity = leb-true (total (curve ps)) f.capacity (ap (λ x. leb (total (curve ps)) x.capacity) (sym at) ∙ unless_pass _ _ (sym c.in_ok-submission.ensures.0)) in
     let fits : submission_sound z f t ≡ true = ap (submission_sound z f) c.in_ok-submission.ensures.1 ∙ submitted_sound z f up down ps few c.in_ok-lodge_in_span.ensures sound cap in
-    let priced : g.prices ≡ Some z = c.in_ok-prices.ensures in
+    let priced : prices_of g ≡ Some z = c.in_ok-prices.ensures.1 in
     let of : submission_fits g i t ≡ true = ap (λ o. is_some o && if_some (λ y. submission_sound y f t) o) priced ∙ fits in
     let came : comes sheet.row event.Lodge ≡ true = ap (λ r. comes r event.Lodge) s.1.1.0 ∙ s.1.0 in
     let taken : takes_submission g sheet.row i t ≡ true = and_both (comes sheet.row event.Lodge) _ came (and_both (registered g i) _ (grind (arith, nat_tests)) of) in
