@@ -112,3 +112,8 @@ row_posts_taken xs i inside some = row_posts_more xs i inside ∙ ap (λ ps. row
 
 pub row_posts_skipped : (xs : List ℤ) (i : ℕ) → i < length xs → non_zero (amount xs i) ≡ false → row_posts 0 (take (i + 1) xs) ≡ row_posts 0 (take i xs)
 row_posts_skipped xs i inside e = row_posts_more xs i inside ∙ ap (λ ps. row_posts 0 (take i xs) ++ ps) (cond-false (non_zero (amount xs i)) (record { account = i; cents = amount xs i } ∷ []) [] e) ∙ append-nil (row_posts 0 (take i xs))
+
+-- with one post more there is one
+pub pushed_some : {X : Type 0} (xs : List X) (y : X) → xs ++ (y ∷ []) ≡ [] → ⊥
+pushed_some [] y e = cc
+pushed_some (x ∷ xs) y e = cc

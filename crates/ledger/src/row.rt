@@ -1,5 +1,5 @@
 // Posts a row of twelve amounts, one for each account from 0, to any ledger: all of them or none.
-ghost use Rattle.std.specs.Prelude.{◌≡◌, ◌||◌, pos, ◌+ℤ◌, if◌then◌else◌, Some, None, int_lt};
+ghost use Rattle.std.specs.Prelude.{◌≡◌, ◌||◌, [], pos, ◌+ℤ◌, if◌then◌else◌, Some, None, int_lt};
 ghost use Rattle.ledger.specs.Posting.{refusal, Checked};
 ghost use Rattle.ledger.specs.Rows.{posts, amount, amount_refusal, first_refused, row_refusal, row_answer, Moved, RowAnswered, row_posts, row_taken_posts};
 ghost use Rattle.ledger.specs.Sums.{row_sum, ledger_sum};
@@ -17,7 +17,11 @@ pub struct RowRefusal {
 
 // The new balance may be either bound, and may be past all that 64 bits hold.
 fn check_bounds(balance: i64, cents: i64, lowest: i64, highest: i64) -> Result<(), Reason>
-    ensures { Checked (if int_lt (balance +ℤ cents) lowest || int_lt highest (balance +ℤ cents) then Some OutOfBounds else None) result }
+    ensures { Checked
+        (if int_lt (balance +ℤ cents) lowest || int_lt highest (balance +ℤ cents)
+        then Some OutOfBounds
+        else None)
+        result }
 {
     // Kept: the sum and its bounds are one pattern; as a chain it takes three steps.
     match balance.checked_add(cents) {
@@ -93,6 +97,7 @@ fn post_each<L: Ledger>(ledger: &mut L, amounts: &[i64; 12])
     requires { row_refusal (L.view ledger.old) amounts.now ≡ None }
     ensures took { L.took ledger.old (row_posts 0 amounts.now) ledger.new }
     ensures moved { Moved (L.view ledger.old) (amount amounts.now) (posts amounts.now) (L.view ledger.new) }
+    ensures kept { row_posts 0 amounts.now ≡ [] → ledger.new ≡ ledger.old }
 {
     // Kept: a loop over the twelve, and not a chain, as each turn posts to the ledger that the last one left.
     for (account, cents) in amounts.iter().enumerate() {
@@ -103,11 +108,14 @@ fn post_each<L: Ledger>(ledger: &mut L, amounts: &[i64; 12])
 }
 
 // Kept: the amounts are posted to any ledger; a struct would lend both for one call.
-// Posts the row, and answers how many posts that took. Amounts that sum to zero leave the sum of all balances as it was.
+// Posts the row, and answers how many posts that took. Where no post is taken the ledger is the very same. Amounts that sum
+// to zero leave the sum of all balances as it was.
 pub fn post_row<L: Ledger>(ledger: &mut L, amounts: &[i64; 12]) -> Result<usize, RowRefusal>
     ensures answered { RowAnswered (L.view ledger.old) amounts.now result (L.view ledger.new) }
     ensures took { L.took ledger.old (row_taken_posts amounts.now result) ledger.new }
-    ensures conserved { row_sum amounts.now ≡ pos 0 → ledger_sum (L.view ledger.new) ≡ ledger_sum (L.view ledger.old) }
+    ensures kept { row_taken_posts amounts.now result ≡ [] → ledger.new ≡ ledger.old }
+    ensures conserved { row_sum amounts.now ≡ pos 0 →
+        ledger_sum (L.view ledger.new) ≡ ledger_sum (L.view ledger.old) }
 {
     let n = check_row(ledger, amounts)?;
     post_each(ledger, amounts);

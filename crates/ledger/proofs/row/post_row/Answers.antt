@@ -12,4 +12,4 @@ returns g c =
     let n = c.in_ok-n.n in
     let checked = row_taken v xs n c.in_ok-n.ensures in
     let done : RowAnswered v xs (Ok n) w = (checked.0, checked.1, c.post_each.ensures.moved) in
-    record { answered = done; took = c.post_each.ensures.took; conserved = row_conserves v xs (Ok n) w done }
+    record { answered = done; took = c.post_each.ensures.took; kept = c.post_each.ensures.kept; conserved = row_conserves v xs (Ok n) w done }
