@@ -96,7 +96,8 @@ pub fn check_row<L: Accounts>(ledger: &L, amounts: &[i64; 12]) -> Result<usize, 
 fn post_each<L: Ledger>(ledger: &mut L, amounts: &[i64; 12])
     requires { row_refusal (L.view ledger.old) amounts.now ≡ None }
     ensures took { L.took ledger.old (row_posts 0 amounts.now) ledger.new }
-    ensures moved { Moved (L.view ledger.old) (amount amounts.now) (posts amounts.now) (L.view ledger.new) }
+    ensures moved { Moved (L.view ledger.old) (amount amounts.now) (posts amounts.now)
+        (L.view ledger.new) }
     ensures kept { row_posts 0 amounts.now ≡ [] → ledger.new ≡ ledger.old }
 {
     // Kept: a loop over the twelve, and not a chain, as each turn posts to the ledger that the last one left.

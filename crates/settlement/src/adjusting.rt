@@ -1,4 +1,5 @@
 // The call that corrects a reading of a settled sheet.
+ghost use Rattle.std.specs.Prelude.{◌≡◌, []};
 ghost use Rattle.pool.specs.declared.call.Call.TheVariants as call;
 ghost use Rattle.pool.specs.declared.call.Answer.TheVariants as answer;
 ghost use Rattle.pool.specs.Day.{Does, made_posts};
@@ -23,8 +24,15 @@ pub fn adjust<L: Ledger>(
     kwmin: u32,
     ledger: &mut L,
 ) -> Result<usize, Refusal>
-    ensures does { Does answer.Posts (held register.now rows.old) (L.view ledger.old) (call.Adjust facility interval kwmin) result (held register.now rows.new) (L.view ledger.new) }
-    ensures took { L.took ledger.old (made_posts (held register.now rows.old) (call.Adjust facility interval kwmin) result) ledger.new }
+    ensures does { Does answer.Posts (held register.now rows.old) (L.view ledger.old)
+        (call.Adjust facility interval kwmin) result
+        (held register.now rows.new) (L.view ledger.new) }
+    ensures took { L.took ledger.old
+        (made_posts (held register.now rows.old) (call.Adjust facility interval kwmin) result)
+        ledger.new }
+    ensures kept { made_posts (held register.now rows.old)
+        (call.Adjust facility interval kwmin) result ≡ [] →
+        ledger.new ≡ ledger.old }
 {
     after_open(register)?;
     let at = sheet_place(rows, interval)?;

@@ -1,5 +1,5 @@
 // The call that settles a sheet.
-ghost use Rattle.std.specs.Prelude.{◌≡◌, ◌≤◌, length};
+ghost use Rattle.std.specs.Prelude.{◌≡◌, ◌≤◌, [], length};
 ghost use Rattle.refusals.specs.declared.Refusal.TheVariants as refusal;
 ghost use Rattle.sheets.specs.Sheets.{complete};
 ghost use Rattle.pool.specs.declared.call.Call.TheVariants as call;
@@ -48,8 +48,14 @@ pub fn settle<L: Ledger>(
     interval: u32,
     ledger: &mut L,
 ) -> Result<usize, Refusal>
-    ensures does { Does answer.Posts (held register.now rows.old) (L.view ledger.old) (call.Settle interval) result (held register.now rows.new) (L.view ledger.new) }
-    ensures took { L.took ledger.old (made_posts (held register.now rows.old) (call.Settle interval) result) ledger.new }
+    ensures does { Does answer.Posts (held register.now rows.old) (L.view ledger.old)
+        (call.Settle interval) result
+        (held register.now rows.new) (L.view ledger.new) }
+    ensures took { L.took ledger.old
+        (made_posts (held register.now rows.old) (call.Settle interval) result)
+        ledger.new }
+    ensures kept { made_posts (held register.now rows.old) (call.Settle interval) result ≡ [] →
+        ledger.new ≡ ledger.old }
 {
     after_open(register)?;
     let at = sheet_place(rows, interval)?;

@@ -1,4 +1,4 @@
-use Rattle.std.proofs.Common.{◌≡◌, true, ◌&&◌, is_some, ap, ◌∙◌, rules}
+use Rattle.std.proofs.Common.{◌≡◌, true, is_some, refl, ap, ◌∙◌, rules}
 use Rattle.offers.proofs.Tests.{and_both}
 use Rattle.sheets.specs.declared.row.Row.{Row}
 use Rattle.sheets.specs.declared.row.Event.TheVariants as event
@@ -42,7 +42,7 @@ returns g c =
     search rules
 
 pub returns-in_err-sheet : goal.returns-in_err-sheet
-returns-in_err-sheet g c = let n = g.L.Ledger.none c.args.ledger.now in record { does = search rules; took = search rules }
+returns-in_err-sheet g c = let n = g.L.Ledger.none c.args.ledger.now in record { does = search rules; took = search rules; kept = λ e. refl }
 
 pub returns-in_err-reading_in_span : goal.returns-in_err-reading_in_span
-returns-in_err-reading_in_span g c = let n = g.L.Ledger.none c.args.ledger.now in record { does = search rules; took = search rules }
+returns-in_err-reading_in_span g c = let n = g.L.Ledger.none c.args.ledger.now in record { does = search rules; took = search rules; kept = λ e. refl }

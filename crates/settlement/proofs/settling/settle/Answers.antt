@@ -1,9 +1,9 @@
-use Rattle.std.proofs.Common.{◌≡◌, true, sym, ap, ◌∙◌, rules}
+use Rattle.std.proofs.Common.{◌≡◌, true, sym, refl, ap, ◌∙◌, rules}
 use Rattle.offers.specs.Tests.{all}
 use Rattle.offers.proofs.Tests.{and_both}
 use Rattle.sheets.specs.declared.row.Event.TheVariants as event
 use Rattle.sheets.specs.Sheets.{complete, has_load}
-use Rattle.sheets.specs.Changes.{comes, table, may_settle}
+use Rattle.sheets.specs.Changes.{comes, table}
 use Rattle.pool.proofs.Passing.{unless_pass, complete_pass, becomes}
 use Rattle.settlement.proofs.settling.settle.Goals as goal
 
@@ -17,4 +17,4 @@ unwrap-settled-requires g c =
     becomes _ _ _ c.settled.result c.settled.ensures (and_both (comes s.row event.Settle) _ came (and_both (all complete (table s.register.now s.row)) _ whole load))
 
 pub returns-in_err-sheet : goal.returns-in_err-sheet
-returns-in_err-sheet g c = let n = g.L.Ledger.none c.args.ledger.now in record { does = search rules; took = search rules }
+returns-in_err-sheet g c = let n = g.L.Ledger.none c.args.ledger.now in record { does = search rules; took = search rules; kept = λ e. refl }
