@@ -1,5 +1,5 @@
 -- What an adjustment finds: a sheet past close with its price, and the change of its nets.
-use Rattle.std.proofs.Common.{◌≡◌, ℕ, ◌-◌, true, ◌&&◌, List, ℤ, Some, None, Option, get_or, is_some, sym, refl, ap, ◌∙◌, true≢false, arith}
+use Rattle.std.proofs.Common.{◌≡◌, ℕ, ◌-◌, true, List, ℤ, Some, None, Option, get_or, is_some, sym, refl, ap, ◌∙◌, true≢false, arith}
 use Rattle.sheets.specs.declared.register.Register.{Register}
 use Rattle.sheets.specs.declared.row.Row.{Row}
 use Rattle.sheets.specs.declared.row.State.{State}
@@ -9,7 +9,7 @@ use Rattle.sheets.specs.declared.sheet.Sheet.{Sheet}
 use Rattle.sheets.specs.Held.{known}
 use Rattle.sheets.specs.Sheets.{next, with_reading}
 use Rattle.merit.proofs.Sound.{past_close}
-use Rattle.amounts.specs.Sheets.{has_price, row_nets, changed, Change}
+use Rattle.amounts.specs.Sheets.{has_price, row_nets, changed, corrigible, Corrects}
 use Rattle.pool.specs.Day.{no_row, adjustment}
 use Rattle.pool.specs.Held.{held}
 
@@ -22,10 +22,10 @@ adjusts_past Settled h e = let z : ◌≡◌ {A = ℕ} 0 1 = cc in omega arith
 pub adjusts_priced : (s : Sheet) → is_some (next s.row.state event.Adjust) ≡ true → has_price s ≡ true
 adjusts_priced s h = past_close (known s.register.now) s.register.now.prices s.row (adjusts_past s.row.state h) s.sound
 
--- what changes is answered where both sheets have a price
-pub changes : (new old : Sheet) (o : Option (List ℤ)) → Change new old o → (has_price new && has_price old) ≡ true → is_some o ≡ true
-changes new old None h t = absurd (true≢false (sym t ∙ h))
-changes new old (Some xs) h t = refl
+-- a correction is answered where the sheet takes the reading and has a price
+pub corrects : (s : Sheet) (i n : ℕ) (o : Option (Sheet × List ℤ)) → Corrects s i n o → corrigible s i n ≡ true → is_some o ≡ true
+corrects s i n None h t = absurd (true≢false (sym t ∙ h))
+corrects s i n (Some x) h t = refl
 
 pub adjustment_is : (g : Register) (rows : List Row) (f i n at place : ℕ) (h k : Register) (r s : Row) → at ≡ i - 1 → place ≡ f - 1 → h ≡ g → r ≡ get_or rows at no_row → k ≡ h → s ≡ with_reading r place n →
     changed (row_nets (known k) s) (row_nets (known h) r) ≡ adjustment (held g rows) f i n

@@ -2,6 +2,7 @@
 ghost use Rattle.std.specs.Prelude.{◌≡◌, ◌≤◌, [], length};
 ghost use Rattle.refusals.specs.declared.Refusal.TheVariants as refusal;
 ghost use Rattle.sheets.specs.Sheets.{complete};
+ghost use Rattle.sheets.specs.Shown.{row_of};
 ghost use Rattle.pool.specs.declared.call.Call.TheVariants as call;
 ghost use Rattle.pool.specs.declared.call.Answer.TheVariants as answer;
 ghost use Rattle.pool.specs.Checks.{unless};
@@ -35,7 +36,7 @@ fn all_complete(table: &[Figures]) -> Result<(), Refusal>
 }
 
 fn has_load(sheet: &Sheet, interval: u32) -> Result<(), Refusal>
-    ensures { result ≡ load_there sheet.now.row.positions interval }
+    ensures { result ≡ load_there (row_of sheet.now).positions interval }
 {
     unless(sheet.has_load(), Refusal::NoLoad(interval))
 }

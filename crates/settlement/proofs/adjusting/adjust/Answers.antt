@@ -1,43 +1,52 @@
-use Rattle.std.proofs.Common.{◌≡◌, true, is_some, refl, ap, ◌∙◌, rules}
-use Rattle.offers.proofs.Tests.{and_both}
+use Rattle.std.proofs.Common.{◌≡◌, ◌<◌, true, [], ◌∷◌, length, is_some, refl, ap, ◌∙◌, rules}
+use Rattle.std.proofs.lemmas.Bool.{lt-ltb}
+use Rattle.offers.proofs.Tests.{and_both, and_first}
+use Rattle.sheets.specs.declared.register.Register.{Register}
 use Rattle.sheets.specs.declared.row.Row.{Row}
 use Rattle.sheets.specs.declared.row.Event.TheVariants as event
-use Rattle.sheets.specs.Sheets.{next}
+use Rattle.sheets.specs.Held.{known}
+use Rattle.sheets.specs.Sheets.{next, reading_fits}
+use Rattle.sheets.specs.Shown.{register_of}
+use Rattle.sheets.specs.Changes.{registered, takes_reading}
 use Rattle.amounts.specs.Sheets.{has_price}
 use Rattle.pool.specs.Day.{adjustment}
 use Rattle.pool.specs.Held.{held}
-use Rattle.settlement.proofs.Prices.{adjusts_priced, adjustment_is, changes}
+use Rattle.pool.proofs.Passing.{figures_pass}
+use Rattle.settlement.proofs.Prices.{adjusts_priced, adjustment_is, corrects}
 use Rattle.settlement.proofs.adjusting.adjust.Goals as goal
 
-pub unwrap-changes-requires : goal.unwrap-changes-requires
-unwrap-changes-requires g c =
-    let old = c.in_ok-sheet.sheet in
-    let new = c.unwrap-corrected.result in
+pub unwrap-requires : goal.unwrap-requires
+unwrap-requires g c =
+    let sheet = c.in_ok-sheet.sheet in
     let s = c.in_ok-sheet.ensures in
-    let Comes : Row → Type 0 = λ r. is_some (next r.state event.Adjust) ≡ true in
-    let was : Comes old.row = ap (λ (r : Row). is_some (next r.state event.Adjust)) s.1.1.0 ∙ s.1.0 in
-    let is : Comes new.row = ap (λ (r : Row). is_some (next r.state event.Adjust)) (rw c.unwrap-corrected.ensures at c.with_reading.ensures).1.0 ∙ was in
-    changes new old c.change.result c.change.ensures (and_both (has_price new) _ (adjusts_priced new is) (adjusts_priced old was))
+    let i = c.in_ok-place.place in
+    let n = c.args.kwmin in
+    let came : is_some (next sheet.row.state event.Adjust) ≡ true = ap (λ (r : Row). is_some (next r.state event.Adjust)) s.1.1.0 ∙ s.1.0 in
+    let here : i < length (known c.args.register.now) = c.in_ok-place.ensures.1.1 in
+    let known_here : registered (register_of sheet) i ≡ true = ap (λ (r : Register). registered r i) s.1.1.1 ∙ lt-ltb i (length (known c.args.register.now)) here in
+    let fits : reading_fits n ≡ true = and_first (reading_fits n) true (figures_pass 1 (reading_fits n ∷ []) c.in_ok-reading_in_span.ensures) in
+    corrects sheet i n c.correction.result c.correction.ensures
+    (and_both (takes_reading (register_of sheet) i n) (has_price sheet) (and_both (registered (register_of sheet) i) (reading_fits n) known_here fits) (adjusts_priced sheet came))
 
 pub returns-in_err-posts : goal.returns-in_err-posts
 returns-in_err-posts g c =
     let s = c.in_ok-sheet.ensures in
-    let t = rw c.unwrap-corrected.ensures at c.with_reading.ensures in
-    let e : c.unwrap-changes.result ≡ adjustment (held c.args.register.now c.args.rows.now) c.args.facility c.args.interval c.args.kwmin =
-    (rw c.unwrap-changes.ensures at c.change.ensures).1
+    let t = rw c.unwrap.ensures at c.correction.ensures in
+    let e : c.unwrap.result.1 ≡ adjustment (held c.args.register.now c.args.rows.now) c.args.facility c.args.interval c.args.kwmin =
+    t.1.1.1
     ∙ adjustment_is c.args.register.now c.args.rows.now c.args.facility c.args.interval c.args.kwmin c.in_ok-at.at c.in_ok-place.place _ _ _ _
-    c.in_ok-at.ensures.1.0 c.in_ok-place.ensures.1.0 s.1.1.1 s.1.1.0 t.1.1 t.1.0 in
+    c.in_ok-at.ensures.1.0 c.in_ok-place.ensures.1.0 s.1.1.1 s.1.1.0 t.1.1.0 t.1.0 in
     let k = rw e at c.in_err-posts.ensures in
     search rules
 
 pub returns : goal.returns
 returns g c =
     let s = c.in_ok-sheet.ensures in
-    let t = rw c.unwrap-corrected.ensures at c.with_reading.ensures in
-    let e : c.unwrap-changes.result ≡ adjustment (held c.args.register.now c.args.rows.now) c.args.facility c.args.interval c.args.kwmin =
-    (rw c.unwrap-changes.ensures at c.change.ensures).1
+    let t = rw c.unwrap.ensures at c.correction.ensures in
+    let e : c.unwrap.result.1 ≡ adjustment (held c.args.register.now c.args.rows.now) c.args.facility c.args.interval c.args.kwmin =
+    t.1.1.1
     ∙ adjustment_is c.args.register.now c.args.rows.now c.args.facility c.args.interval c.args.kwmin c.in_ok-at.at c.in_ok-place.place _ _ _ _
-    c.in_ok-at.ensures.1.0 c.in_ok-place.ensures.1.0 s.1.1.1 s.1.1.0 t.1.1 t.1.0 in
+    c.in_ok-at.ensures.1.0 c.in_ok-place.ensures.1.0 s.1.1.1 s.1.1.0 t.1.1.0 t.1.0 in
     let k = rw e at c.in_ok-posts.ensures in
     search rules
 
