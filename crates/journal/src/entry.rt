@@ -1,8 +1,8 @@
 // Lines entered into memory through a journal, and the memory as its owner finds it afterwards.
-ghost use Rattle.std.specs.Prelude.{◌≡◌, ◌≤◌, ◌++◌, length, drop};
-ghost use Rattle.ledger.specs.Rows.{row_taken_posts};
+ghost use Rattle.std.specs.Prelude.{◌≡◌, ◌≤◌, [], ◌++◌, length, drop};
+ghost use Rattle.ledger.specs.Rows.{row_answer, row_taken_posts};
 ghost use Rattle.journal.specs.Extending.{lines_of};
-ghost use Rattle.journal.specs.Lines.{room, entered};
+ghost use Rattle.journal.specs.Lines.{room, entered, lines_view};
 
 use crate::journal::Journal;
 use crate::line::Line;
@@ -27,7 +27,9 @@ pub fn enter_all(memory: &mut [Line], posts: &[Line]) -> usize
 
 // Posts a row to a journal that is new in this memory: its amounts that are not zero, in rising order of account, or none.
 pub fn enter_row(memory: &mut [Line], amounts: &[i64; 12]) -> Result<usize, RowRefusal>
-    ensures { memory.new ≡ lines_of (row_taken_posts amounts.now result) ++ drop (length (row_taken_posts amounts.now result)) memory.old }
+    ensures answer { result ≡ row_answer (lines_view (room memory.old) []) amounts.now }
+    ensures lines { memory.new ≡ lines_of (row_taken_posts amounts.now result)
+        ++ drop (length (row_taken_posts amounts.now result)) memory.old }
 {
     let mut journal = Journal::new(memory);
     post_row(&mut journal, amounts)

@@ -29,11 +29,13 @@ pub struct Journal<'a> {
 }
 
 impl<'a> Journal<'a> {
+    ghost use Rattle.journal.specs.Shown.{memory_of, lender_of, used_of, posted_of};
+
     // A journal with no line yet, over the memory as it is.
     pub fn new(lines: &'a mut [Line]) -> Journal<'a>
-        ensures lines { result.lines.now ≡ lines.old }
-        ensures used { result.used ≡ 0 }
-        ensures lender { result.lines.ghost_name ≡ lines.entry.ghost_name }
+        ensures lines { memory_of result ≡ lines.old }
+        ensures used { used_of result ≡ 0 }
+        ensures lender { lender_of result ≡ lines.entry.ghost_name }
     {
         Journal {
             lines,
@@ -44,15 +46,15 @@ impl<'a> Journal<'a> {
 
     // The lines written, oldest first.
     pub fn posted(&self) -> &[Line]
-        ensures lines { result.now ≡ take self.now.used self.now.lines.now }
-        ensures count { length result.now ≡ self.now.used }
+        ensures lines { result.now ≡ posted_of self.now }
+        ensures count { length result.now ≡ used_of self.now }
     {
         &self.lines[..self.used]
     }
 
     // How many lines are written.
     pub fn used(&self) -> usize
-        ensures { result ≡ self.now.used }
+        ensures { result ≡ used_of self.now }
     {
         self.posted().len()
     }
@@ -85,6 +87,8 @@ impl<'a> Accounts for Journal<'a> {
 }
 
 impl<'a> Ledger for Journal<'a> {
+    ghost use Rattle.journal.specs.Shown.{memory_of, lender_of, used_of, running_of};
+
     ghost took = { λ s ps t. Extended s.lines.now s.used ps t.lines.now t.used × (t.lines.ghost_name ≡ s.lines.ghost_name) };
 
     ghost none = { λ s. (extended_none s.lines.now s.used, refl) };
@@ -92,10 +96,13 @@ impl<'a> Ledger for Journal<'a> {
     ghost more = { λ s t u ps qs g h. (extended_more s.lines.now s.used ps t.lines.now t.used s.within g.0 qs u.lines.now u.used h.0, h.1 ∙ g.1) };
 
     fn post(&mut self, account: usize, cents: i64) -> Result<(), Reason>
-        ensures answered { Answered (journal_view self.old.lines.now self.old.used) account cents result (journal_view self.new.lines.now self.new.used) }
-        ensures took { Extended self.old.lines.now self.old.used (taken account cents result) self.new.lines.now self.new.used × (self.new.lines.ghost_name ≡ self.old.lines.ghost_name) }
-        ensures written { Written self.old.lines.now self.old.used self.old.balances account cents result self.new.lines.now self.new.used self.new.balances }
-        ensures lender { self.new.lines.ghost_name ≡ self.old.lines.ghost_name }
+        ensures answered { Answered (journal_view (memory_of self.old) (used_of self.old)) account cents result
+            (journal_view (memory_of self.new) (used_of self.new)) }
+        ensures took { Extended (memory_of self.old) (used_of self.old) (taken account cents result)
+            (memory_of self.new) (used_of self.new) × (lender_of self.new ≡ lender_of self.old) }
+        ensures written { Written (memory_of self.old) (used_of self.old) (running_of self.old) account cents
+            result (memory_of self.new) (used_of self.new) (running_of self.new) }
+        ensures lender { lender_of self.new ≡ lender_of self.old }
     {
         check_post(self, account, cents)?;
         self.lines[self.used] = Line {

@@ -1,13 +1,20 @@
 // The two halves of a ledger: what it tells, and what takes posts.
 ghost use Rattle.std.specs.Prelude.{◌≡◌, List, [], ◌++◌, refl};
 ghost use Rattle.std.proofs.Common.{◌∙◌};
-ghost use Rattle.ledger.specs.View.{View, Sound, told};
+ghost use Rattle.ledger.specs.View.{View, Sound, most, told};
 ghost use Rattle.ledger.specs.Posting.{Answered, Post, taken};
 
 use crate::reason::Reason;
 
 // No figure of a ledger lies further from zero than this, in cents.
 pub const MOST: i64 = 1_000_000_000_000_000;
+
+// That end of the span of money; its promise ties the constant to the span that a ledger keeps.
+pub fn end_of_span() -> i64
+    ensures { result ≡ most }
+{
+    MOST
+}
 
 // The reading half. Accounts are numbered from 0; of an account that it lacks it tells nothing.
 pub trait Accounts {
@@ -17,13 +24,15 @@ pub trait Accounts {
     // what is seen lies within the spans of a ledger
     ghost sound: { (x : Self) → Sound (Self.view x) };
 
+    // How many accounts there are, 1 to 64.
     fn accounts(&self) -> usize
         ensures { result ≡ (Self.view self.now).count };
 
-    // How many posts there is room for.
+    // How many posts there is room for, up to 65,535.
     fn places(&self) -> u16
         ensures { result ≡ (Self.view self.now).places };
 
+    // An account's balance in cents, which may move between the next two.
     fn balance(&self, account: usize) -> Option<i64>
         ensures { result ≡ told (Self.view self.now) (Self.view self.now).balance account };
 
@@ -45,6 +54,7 @@ pub trait Ledger: Accounts {
     // posts and then more posts
     ghost more: { (x y z : Self) (ps qs : List Post) → took x ps y → took y qs z → took x (ps ++ qs) z };
 
+    // Adds the cents to the account's balance, or refuses for the first reason that holds and changes nothing.
     // Kept: account and cents are all that a post is told; a struct of the two would be taken apart at once.
     fn post(&mut self, account: usize, cents: i64) -> Result<(), Reason>
         ensures answered { Answered (Self.view self.old) account cents result (Self.view self.new) }

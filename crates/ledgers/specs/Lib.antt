@@ -1,3 +1,4 @@
 pub mod Tables
 pub mod Limits
+pub mod Shown
 pub mod Steps
