@@ -4,5 +4,5 @@ pub mod Passed
 pub mod Standing
 pub mod Settled
 pub mod Gains
-pub mod Posts
 pub mod Runs
+pub mod Posts

@@ -1,13 +1,19 @@
 -- What a ledger took of a list of calls, beyond what is seen of it.
-use Rattle.std.proofs.Common.{◌≡◌, List, [], ◌∷◌, ◌++◌, Ok, Err, sym, refl, ap, ◌∙◌, subst}
-use Rattle.std.proofs.lemmas.List.{append_assoc, append-nil}
-use Rattle.ledger.specs.View.{View}
+use Rattle.std.proofs.Common.{◌≡◌, ℕ, zero, suc, ◌+◌, cond, List, [], ◌∷◌, ◌++◌, ℤ, pos, negsuc, Ok, Err, Result, sym, refl, ap, ◌∙◌, subst, arith}
+use Rattle.std.proofs.lemmas.List.Sums.{sum_by-cons}
+use Rattle.ledger.specs.View.{View, Sound}
 use Rattle.ledger.specs.Posting.{Post}
+use Rattle.ledger.specs.Rows.{non_zero, posts, row_posts}
+use Rattle.ledger.proofs.Rows.{room_for_all}
+use Rattle.refusals.specs.declared.Refusal.{Refusal}
 use Rattle.pool.specs.declared.call.Call.{Call}
-use Rattle.pool.specs.Day.{Day, made_posts, Does}
-use Rattle.day.specs.Book.{Book, Answered, fed, told}
-use Rattle.day.specs.Law.{Goes, day_after, posts_made, written}
+use Rattle.pool.specs.declared.call.Answer.{Answer}
+use Rattle.pool.specs.Day.{Day, posted, made_posts, Does}
+use Rattle.day.specs.Book.{Book, Answered, blank, fed, told}
+use Rattle.day.specs.Claims.{answer_of}
+use Rattle.day.specs.Law.{Keeps, Goes, day_after, posts_made, written}
 use Rattle.day.proofs.Pages.{told_after}
+use Rattle.day.proofs.Runs.{posted_taken, goes_one}
 
 -- ---- from the day to the book
 told_next : (b : Book) (c : Call) (r : Answered) → day_after (told b) c r ≡ told (fed b c r)
@@ -20,24 +26,53 @@ posts_written b (c ∷ cs) [] = refl
 posts_written b (c ∷ cs) (r ∷ rs) =
     ap (λ ps. made_posts (told b) c r ++ ps) (ap (λ d. posts_made d cs rs) (told_next b c r) ∙ posts_written (fed b c r) cs rs)
 
--- ---- one call more
+-- ---- a call that was lent no ledger
+none_posted : (a : ℕ) (xs : List ℤ) → posts xs ≡ 0 → row_posts a xs ≡ []
+none_posted a [] e = refl
+none_posted a (pos zero ∷ xs) e = none_posted (a + 1) xs (omega arith)
+none_posted a (pos (suc n) ∷ xs) e = let one : posts (pos (suc n) ∷ xs) ≡ 1 + posts xs = sum_by-cons (λ x. cond (non_zero x) 1 0) (pos (suc n)) xs in absurd (omega arith)
+none_posted a (negsuc n ∷ xs) e = let one : posts (negsuc n ∷ xs) ≡ 1 + posts xs = sum_by-cons (λ x. cond (non_zero x) 1 0) (negsuc n) xs in absurd (omega arith)
+
+-- a ledger without a place takes no post
+full : View
+full = record { count = 0; places = 0; balance = λ a. pos 0; lowest = λ a. pos 0; highest = λ a. pos 0 }
+
+quiet : {X : Type 0} (wrap : X → Answer) (d : Day) (c : Call) (r : Result X Refusal) (e : Day) → ((v : View) → Does wrap d v c r e v) → made_posts d c r ≡ []
+unfolding full
+quiet wrap d c (Ok a) e does = none_posted 0 (posted d c) (let h = room_for_all full (posted d c) (posted_taken d full c (does full).passes) in omega arith)
+quiet wrap d c (Err f) e does = refl
+
 did : (d : Day) (v : View) (c : Call) (r : Answered) (e : Day) (w : View) → Does (λ x. x) d v c r e w → e ≡ day_after d c r
 did d v c (Ok a) e w t = t.changes
 did d v c (Err f) e w t = t.same
 
 module _ {L : Type 0} (view : L → View) (took : L → List Post → L → Type 0) where
-  posts_push : (d : Day) (x : L) (cs : List Call) (rs : List Answered) (e : Day) (z : L) (c : Call) (r : Answered) → Goes view took d x cs rs e z →
-      posts_made d (cs ++ c ∷ []) (rs ++ r ∷ []) ≡ posts_made d cs rs ++ made_posts e c r
-  posts_push d x [] [] e z c r g = append-nil (made_posts d c r) ∙ ap (λ k. made_posts k c r) (sym g.0)
-  posts_push d x [] (a ∷ rs) e z c r g = absurd g
-  posts_push d x (k ∷ cs) [] e z c r g = absurd g
-  posts_push d x (k ∷ cs) (a ∷ rs) e z c r g =
-      let on : day_after d k a ≡ g.0 = sym (did d (view x) k a g.0 (view g.1.0) g.1.1.1.1.0) in
-      let rest = ap (λ f. posts_made f (cs ++ c ∷ []) (rs ++ r ∷ [])) on ∙ posts_push g.0 g.1.0 cs rs e z c r g.1.1.1.1.1 in
-      ap (λ ps. made_posts d k a ++ ps) (rest ∙ ap (λ f. posts_made f cs rs ++ made_posts e c r) (sym on))
-      ∙ sym (append_assoc (made_posts d k a) (posts_made (day_after d k a) cs rs) (made_posts e c r))
+  -- ---- one call, by the contract of its own function
+  pub call_goes : {X : Type 0} (wrap : X → Answer) (d : Day) (x : L) (c : Call) (r : Result X Refusal) (e : Day) (y : L) → Sound (view y)
+      → Does wrap d (view x) c r e (view y) → took x (made_posts d c r) y → Keeps (made_posts d c r) x y → Goes view took d x (c ∷ []) (answer_of wrap r ∷ []) e y
+  call_goes wrap d x c (Ok a) e y sound does posts keeps = goes_one view took d x c (Ok (wrap a)) e y sound posts keeps does
+  call_goes wrap d x c (Err f) e y sound does posts keeps = goes_one view took d x c (Err f) e y sound posts keeps does
 
-  pub took_push : (more : (x y z : L) (ps qs : List Post) → took x ps y → took y qs z → took x (ps ++ qs) z)
-      (x y z : L) (d : Day) (cs : List Call) (rs : List Answered) (e : Day) (c : Call) (r : Answered) → Goes view took d x cs rs e y →
-      took x (posts_made d cs rs) y → took y (made_posts e c r) z → took x (posts_made d (cs ++ c ∷ []) (rs ++ r ∷ [])) z
-  took_push more x y z d cs rs e c r g s t = subst (λ ps. took x ps z) (sym (posts_push d x cs rs e y c r g)) (more x y z (posts_made d cs rs) (made_posts e c r) s t)
+  module _ (none : (x : L) → took x [] x) where
+    pub quiet_goes : {X : Type 0} (wrap : X → Answer) (d : Day) (x : L) (c : Call) (r : Result X Refusal) (e : Day) → Sound (view x)
+        → ((v : View) → Does wrap d v c r e v) → Goes view took d x (c ∷ []) (answer_of wrap r ∷ []) e x
+    quiet_goes wrap d x c r e sound does =
+        call_goes wrap d x c r e x sound (does (view x)) (subst (λ ps. took x ps x) (sym (quiet wrap d c r e does)) (none x)) (λ k. refl)
+
+    -- ---- all calls
+    pub goes_took : (more : (x y z : L) (ps qs : List Post) → took x ps y → took y qs z → took x (ps ++ qs) z)
+        (d : Day) (x : L) (cs : List Call) (rs : List Answered) (e : Day) (z : L) → Goes view took d x cs rs e z → took x (posts_made d cs rs) z
+    goes_took more d x [] [] e z g = subst (λ y. took x [] y) (sym g.1) (none x)
+    goes_took more d x [] (r ∷ rs) e z g = absurd g
+    goes_took more d x (c ∷ cs) [] e z g = absurd g
+    goes_took more d x (c ∷ cs) (r ∷ rs) e z g =
+        let f = g.0 in
+        let y = g.1.0 in
+        let on : f ≡ day_after d c r = did d (view x) c r f (view y) g.1.1.1.1.1.0 in
+        let rest = subst (λ k. took y (posts_made k cs rs) z) on (goes_took more f y cs rs e z g.1.1.1.1.1.1) in
+        more x y z (made_posts d c r) (posts_made (day_after d c r) cs rs) g.1.1.1.0 rest
+
+    pub goes_written : (more : (x y z : L) (ps qs : List Post) → took x ps y → took y qs z → took x (ps ++ qs) z)
+        (n : ℕ) (d : Day) (x : L) (cs : List Call) (rs : List Answered) (e : Day) (z : L) → d ≡ told (blank n) → Goes view took d x cs rs e z
+        → took x (written (blank n) cs rs) z
+    goes_written more n d x cs rs e z h g = subst (λ ps. took x ps z) (ap (λ k. posts_made k cs rs) h ∙ posts_written (blank n) cs rs) (goes_took more d x cs rs e z g)

@@ -21,7 +21,7 @@ use Rattle.pool.specs.declared.call.Call.TheVariants.{Register, Open, Lodge, Sta
 use Rattle.pool.specs.Day.{Day, Does, not_refused, checks, table, posted, made_posts, Moves}
 use Rattle.pool.specs.Held.{held}
 use Rattle.day.specs.Book.{Book, Answered, blank, blank_page, noted, fed, kept, told_page, told}
-use Rattle.day.specs.Law.{gains, Heeds, Follows, Law, Goes}
+use Rattle.day.specs.Law.{Keeps, gains, Heeds, Follows, Law, Goes}
 use Rattle.day.proofs.Pages.{told_after}
 use Rattle.day.proofs.Passed.{passed}
 use Rattle.day.proofs.Standing.{Standing, standing_blank, standing_noted}
@@ -38,7 +38,7 @@ not_refused_none None e = refl
 not_refused_none (Some r) e = cc
 
 -- the ledger takes it
-posted_taken : (d : Day) (v : View) (c : Call) → table d v c ≡ Ok tt → row_refusal v (posted d c) ≡ None
+pub posted_taken : (d : Day) (v : View) (c : Call) → table d v c ≡ Ok tt → row_refusal v (posted d c) ≡ None
 posted_taken d v (Register a x c t) e = none_refused v
 posted_taken d v (Open lo hi) e = none_refused v
 posted_taken d v (Lodge f i u w ps) e = none_refused v
@@ -125,14 +125,15 @@ module _ {L : Type 0} (view : L → View) (took : L → List Post → L → Type
   facts balance b x (c ∷ cs) (r ∷ rs) d e z s h g =
       let f = g.0 in
       let y = g.1.0 in
-      let one = stepped balance b (view x) c r f (view y) s (subst (λ (k : Day). Does (λ t. t) k (view x) c r f (view y)) h g.1.1.1.1.0) in
+      let one = stepped balance b (view x) c r f (view y) s (subst (λ (k : Day). Does (λ t. t) k (view x) c r f (view y)) h g.1.1.1.1.1.0) in
       let posts = subst (λ (k : Day). took x (made_posts k c r) y) h g.1.1.1.0 in
+      let keeps = subst (λ (k : Day). Keeps (made_posts k c r) x y) h g.1.1.1.1.0 in
       let k = fed b c r in
-      let rest = facts balance k y cs rs f e z one.standing one.holds g.1.1.1.1.1 in
+      let rest = facts balance k y cs rs f e z one.standing one.holds g.1.1.1.1.1.1 in
       let end = kept k cs rs in
       record {
         sum = rest.sum ∙ one.sum;
-        heeded = (y, (g.1.1.0, (posts, (one.heeds, rest.heeded))));
+        heeded = (y, (g.1.1.0, (posts, (keeps, (one.heeds, rest.heeded)))));
         holds = rest.holds;
         gained = gained_as (view x) (view z) (λ a. between b k a +ℤ between k end a) (between b end)
             (λ a. less_then (gains b.facilities a b.pages) (gains k.facilities a k.pages) (gains end.facilities a end.pages))
@@ -155,26 +156,25 @@ module _ {L : Type 0} (view : L → View) (took : L → List Post → L → Type
         least = standing_least b t.standing;
       }
 
-  -- ---- one call more
-  goes_push : (d : Day) (x : L) (cs : List Call) (rs : List Answered) (e : Day) (z : L) (c : Call) (r : Answered) (f : Day) (y : L) →
-      Goes view took d x cs rs e z → Sound (view y) → took z (made_posts e c r) y → Does (λ t. t) e (view z) c r f (view y) → Goes view took d x (cs ++ c ∷ []) (rs ++ r ∷ []) f y
-  goes_push d x [] [] e z c r f y g sound posts s =
-      let p : Does (λ t. t) d (view z) c r f (view y) = subst (λ (k : Day). Does (λ t. t) k (view z) c r f (view y)) g.0 s in
-      let q : Does (λ t. t) d (view x) c r f (view y) = subst (λ (k : L). Does (λ t. t) d (view k) c r f (view y)) g.1 p in
-      let m : took z (made_posts d c r) y = subst (λ (k : Day). took z (made_posts k c r) y) g.0 posts in
-      let n : took x (made_posts d c r) y = subst (λ (k : L). took k (made_posts d c r) y) g.1 m in
-      (f, (y, (sound, (n, (q, (refl, refl))))))
-  goes_push d x [] (a ∷ rs) e z c r f y g sound posts s = absurd g
-  goes_push d x (k ∷ cs) [] e z c r f y g sound posts s = absurd g
-  goes_push d x (k ∷ cs) (a ∷ rs) e z c r f y g sound posts s =
-      (g.0, (g.1.0, (g.1.1.0, (g.1.1.1.0, (g.1.1.1.1.0, goes_push g.0 g.1.0 cs rs e z c r f y g.1.1.1.1.1 sound posts s)))))
+  -- ---- one call, and one list after another
+  pub goes_one : (d : Day) (x : L) (c : Call) (r : Answered) (e : Day) (y : L) → Sound (view y) → took x (made_posts d c r) y → Keeps (made_posts d c r) x y
+      → Does (λ t. t) d (view x) c r e (view y) → Goes view took d x (c ∷ []) (r ∷ []) e y
+  goes_one d x c r e y sound posts keeps does = (e, (y, (sound, (posts, (keeps, (does, (refl, refl)))))))
+
+  pub goes_then : (d e f : Day) (x y z : L) (cs ds : List Call) (rs ss : List Answered) → Goes view took d x cs rs e y → Goes view took e y ds ss f z
+      → Goes view took d x (cs ++ ds) (rs ++ ss) f z
+  goes_then d e f x y z [] ds [] ss g h = subst (λ (k : Day). Goes view took k x ds ss f z) g.0 (subst (λ (k : L). Goes view took e k ds ss f z) g.1 h)
+  goes_then d e f x y z [] ds (r ∷ rs) ss g h = absurd g
+  goes_then d e f x y z (c ∷ cs) ds [] ss g h = absurd g
+  goes_then d e f x y z (c ∷ cs) ds (r ∷ rs) ss g h =
+      (g.0, (g.1.0, (g.1.1.0, (g.1.1.1.0, (g.1.1.1.1.0, (g.1.1.1.1.1.0, goes_then g.0 e f g.1.0 y z cs ds rs ss g.1.1.1.1.1.1 h))))))
 
   -- one turn of the loop over the calls
   pub goes_more : (all : List Call) (i : ℕ) (d : Day) (x : L) (rs : List Answered) (e : Day) (z : L) (r : Answered) (more : List Answered) (f : Day) (y : L) →
-      i < length all → Goes view took d x (take i all) rs e z → Sound (view y) → took z (made_posts e (get_or all i (Register 0 0 0 0)) r) y
-      → Does (λ t. t) e (view z) (get_or all i (Register 0 0 0 0)) r f (view y) → more ≡ rs ++ r ∷ [] → Goes view took d x (take (i + 1) all) more f y
-  goes_more all i d x rs e z r more f y h g sound posts s p =
-      rw (take_more all i (Register 0 0 0 0) h, p) (goes_push d x (take i all) rs e z (get_or all i (Register 0 0 0 0)) r f y g sound posts s)
+      i < length all → Goes view took d x (take i all) rs e z → Goes view took e z (get_or all i (Register 0 0 0 0) ∷ []) (r ∷ []) f y → more ≡ rs ++ r ∷ []
+      → Goes view took d x (take (i + 1) all) more f y
+  goes_more all i d x rs e z r more f y h g one p =
+      rw (take_more all i (Register 0 0 0 0) h, p) (goes_then d e f x z y (take i all) (get_or all i (Register 0 0 0 0) ∷ []) rs (r ∷ []) g one)
 
 -- ---- register and sheets that are blank
 told_blank : (n : ℕ) → replicate n blank_row ≡ map told_page (replicate n blank_page)

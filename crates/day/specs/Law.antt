@@ -33,13 +33,23 @@ Seen L = L → View
 abbrev pub Took : Type 0 → Type 1
 Took L = L → List Post → L → Type 0
 
--- A list of calls on the ledger x, which is z after them: between two calls the ledger is one of its kind, that has taken the posts of the call before.
+-- where no post was taken, the ledger is the very same
+abbrev pub Keeps : {L : Type 0} → List Post → L → L → Type 0
+Keeps ps x y = ps ≡ [] → y ≡ x
+
+-- A list of calls on the ledger x, which is z after them: between two calls the ledger is one of its kind, that has taken the
+-- posts of the call before, and is the very same where there were none.
 abbrev pub Follows : {L : Type 0} → Seen L → Took L → Book → L → List Call → List Answered → L → Type 0
 Follows view took b x [] [] z = z ≡ x
 Follows view took b x [] (r ∷ rs) z = ⊥
 Follows view took b x (c ∷ cs) [] z = ⊥
 Follows {L = L} view took b x (c ∷ cs) (r ∷ rs) z =
-    (y : L) × (Sound (view y) × (took x (made_posts (told b) c r) y × (Heeds b (view x) c r (view y) × Follows view took (fed b c r) y cs rs z)))
+    let ps = made_posts (told b) c r in
+    (y : L) × (Sound (view y)
+    × (took x ps y
+    × (Keeps ps x y
+    × (Heeds b (view x) c r (view y)
+    × Follows view took (fed b c r) y cs rs z))))
 
 -- ---- what the accounts gained
 abbrev pub is_settled : State → Bool
@@ -99,7 +109,12 @@ Goes view took d x [] [] e z = (e ≡ d) × (z ≡ x)
 Goes view took d x [] (r ∷ rs) e z = ⊥
 Goes view took d x (c ∷ cs) [] e z = ⊥
 Goes {L = L} view took d x (c ∷ cs) (r ∷ rs) e z =
-    (f : Day) × ((y : L) × (Sound (view y) × (took x (made_posts d c r) y × (Does (λ x. x) d (view x) c r f (view y) × Goes view took f y cs rs e z))))
+    let ps = made_posts d c r in
+    (f : Day) × ((y : L) × (Sound (view y)
+    × (took x ps y
+    × (Keeps ps x y
+    × (Does (λ x. x) d (view x) c r f (view y)
+    × Goes view took f y cs rs e z)))))
 
 -- the day after a call with its answer
 abbrev pub day_after : Day → Call → Answered → Day

@@ -3,6 +3,7 @@ ghost use Rattle.ledger.specs.View.{View};
 ghost use Rattle.pool.specs.declared.call.Call.TheVariants as calls;
 ghost use Rattle.pool.specs.Day.{Does, made_posts};
 ghost use Rattle.pool.specs.Held.{held};
+ghost use Rattle.day.specs.Law.{Keeps};
 
 use ledger::accounts::Ledger;
 use merit::rung::{RUNGS, Rung};
@@ -25,7 +26,8 @@ fn close_with(
     interval: u32,
     rungs: usize,
 ) -> Result<Answer, Refusal>
-    ensures { (v : View) → Does (λ x. x) (held register.now rows.old) v (calls.Close interval rungs) result (held register.now rows.new) v }
+    ensures { (v : View) → Does (λ x. x) (held register.now rows.old) v
+        (calls.Close interval rungs) result (held register.now rows.new) v }
 {
     let mut working = [Rung::blank(); RUNGS];
     let lent = rungs.min(RUNGS);
@@ -42,8 +44,12 @@ pub fn step<L: Ledger>(
     ledger: &mut L,
     call: &Call,
 ) -> Result<Answer, Refusal>
-    ensures does { Does (λ x. x) (held register.old rows.old) (L.view ledger.old) call.now result (held register.new rows.new) (L.view ledger.new) }
-    ensures took { L.took ledger.old (made_posts (held register.old rows.old) call.now result) ledger.new }
+    ensures does { Does (λ x. x) (held register.old rows.old) (L.view ledger.old)
+        call.now result (held register.new rows.new) (L.view ledger.new) }
+    ensures took { L.took ledger.old
+        (made_posts (held register.old rows.old) call.now result) ledger.new }
+    ensures kept { Keeps (made_posts (held register.old rows.old) call.now result)
+        ledger.old ledger.new }
 {
     // Kept: one arm a call makes it by its own function; a trait over ten kinds would say no more.
     match *call {

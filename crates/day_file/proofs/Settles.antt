@@ -40,9 +40,9 @@ module _ {L M : Type 0} (view : L → View) (took : L → List Post → L → Ty
   follows_read b x (c ∷ cs) (r ∷ rs) z k g =
       let y = g.0 in
       let o = on x _ y k g.1.1.0 in
-      let rest = follows_read (fed b c r) y cs rs z o.0 g.1.1.1.1 in
-      let heeds = subst (λ (u : View). Heeds b u c r (seen (read y))) (same x k) (subst (λ (u : View). Heeds b (view x) c r u) (same y o.0) g.1.1.1.0) in
-      (rest.0, (read y, (subst Sound (same y o.0) g.1.0, (o.1, (heeds, rest.1)))))
+      let rest = follows_read (fed b c r) y cs rs z o.0 g.1.1.1.1.1 in
+      let heeds = subst (λ (u : View). Heeds b u c r (seen (read y))) (same x k) (subst (λ (u : View). Heeds b (view x) c r u) (same y o.0) g.1.1.1.1.0) in
+      (rest.0, (read y, (subst Sound (same y o.0) g.1.0, (o.1, (λ e. ap read (g.1.1.1.0 e), (heeds, rest.1))))))
 
   pub tells_read : (sheets : ℕ) (calls : List Call) (asked : List Asked) (x z : L) (text : List ℕ) → Keeps x → Tells view took sheets calls asked x z text
       → Keeps z × Tells seen does sheets calls asked (read x) (read z) text

@@ -4,15 +4,17 @@ mod worked;
 
 use crate::tests::small::Small;
 use crate::tests::worked::*;
+use day::lent::{AnswersTooShort, make_all};
 use day::whole::whole_day;
 use journal::journal::Journal;
 use journal::line::Line;
-use ledger::accounts::MOST;
+use ledger::accounts::{Accounts, MOST};
 use ledgers::limit::CreditLimit;
 use ledgers::table::AccountTable;
 use offers::pair::Pair;
 use pool::call::{Answer, Call, Lodged};
 use refusals::Refusal;
+use sheets::register::Register;
 use sheets::row::{Row, State};
 use std::alloc::{AllocError, Global};
 use std::test::*;
@@ -296,5 +298,46 @@ fn journal_too_short_for_the_correction(rt: HostRuntime) -> Result<(), Fail> {
     let answers = whole_day(rt.alloc(), &mut [Row::blank(); 6], &mut journal, &calls)?;
     assert!(rt; answers.len() == 15 && is_not_posted(answers[14], 2, 4));
     assert!(rt; journal.used() == 3 && memory[3] == line(99, 7));
+    Ok(())
+}
+
+// What stood in the answers' memory before.
+const UNUSED: Result<Answer, Refusal> = Err(Refusal::Facility(99));
+
+#[test]
+fn answers_too_short(rt: HostRuntime) -> Result<(), Fail> {
+    let mut register = Register::blank();
+    let mut rows = [Row::blank(); 6];
+    let mut table = AccountTable::new();
+    let mut answers = [UNUSED; 2];
+    let made = make_all(
+        &mut register,
+        &mut rows,
+        &mut table,
+        &OPENING,
+        &mut answers,
+    );
+    assert!(rt; made == Err(AnswersTooShort { needed: 3 }));
+    assert!(rt; answers == [UNUSED; 2]);
+    assert!(rt; register.facilities().is_empty() && table.balance(0) == Some(0));
+    Ok(())
+}
+
+#[test]
+fn slots_behind_the_answers(rt: HostRuntime) -> Result<(), Fail> {
+    let mut register = Register::blank();
+    let mut rows = [Row::blank(); 6];
+    let mut table = AccountTable::new();
+    let mut answers = [UNUSED; 5];
+    let made = make_all(
+        &mut register,
+        &mut rows,
+        &mut table,
+        &OPENING,
+        &mut answers,
+    );
+    assert!(rt; made == Ok(()) && answers[2] == Ok(Answer::Opened));
+    assert!(rt; answers[0] == Ok(Answer::Number(1)) && answers[1] == Ok(Answer::Number(2)));
+    assert!(rt; answers[3] == UNUSED && answers[4] == UNUSED);
     Ok(())
 }

@@ -24,3 +24,6 @@ returns-in-Demand-clause-does g c = let h = c.demand.ensures (g.L.Accounts.view 
 
 pub returns-in-Adjust-clause-took : goal.returns-in-Adjust-clause-took
 returns-in-Adjust-clause-took g c = let h = c.adjust.ensures.took in rw c.in-Adjust.is (search rules)
+
+pub returns-in-Adjust-clause-kept : goal.returns-in-Adjust-clause-kept
+returns-in-Adjust-clause-kept g c = let h = c.adjust.ensures.kept in rw c.in-Adjust.is (search rules)
