@@ -1,6 +1,6 @@
+pub mod Passed
 pub mod Pages
 pub mod Answering
-pub mod Passed
 pub mod Standing
 pub mod Settled
 pub mod Gains

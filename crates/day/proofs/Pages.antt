@@ -1,15 +1,20 @@
 -- What a call makes of register and sheets is what the book tells after it.
-use Rattle.std.proofs.Common.{◌≡◌, ℕ, zero, suc, ◌-◌, List, [], ◌∷◌, map, get_or, set, sym, refl, ap, ◌∙◌}
+use Rattle.std.proofs.Common.{◌≡◌, ℕ, zero, suc, ◌-◌, List, [], ◌∷◌, map, get_or, set, is_some, unwrap_or, Ok, true, sym, refl, ap, ◌∙◌}
 use Rattle.std.proofs.lemmas.List.{map-set}
 use Rattle.sheets.specs.declared.row.Figures.{Figures}
 use Rattle.sheets.specs.declared.row.Row.{Row}
+use Rattle.sheets.specs.declared.row.State.{State}
 use Rattle.sheets.specs.declared.row.State.TheVariants as state
-use Rattle.sheets.specs.Sheets.{no_figures, figures_at, with_figures, offer_as, start_as, read_as, with_submission, with_start, with_reading, with_position, with_demand, with_state}
+use Rattle.sheets.specs.declared.row.Event.{Event}
+use Rattle.sheets.specs.declared.row.Event.TheVariants as event
+use Rattle.sheets.specs.Sheets.{no_figures, figures_at, with_figures, offer_as, start_as, read_as, with_submission, with_start, with_reading, with_position, with_demand, with_state, row_after, next}
 use Rattle.offers.specs.Curves as curves
 use Rattle.pool.specs.declared.call.Call.{Call}
 use Rattle.pool.specs.declared.call.Call.TheVariants.{Register, Open, Lodge, Start, Reading, Position, Demand, Close, Settle, Adjust}
-use Rattle.pool.specs.Day.{no_row, sheet, put, submitted, after}
-use Rattle.day.specs.Book.{Offer, Entry, Page, Book, absent, no_page, page, keep, enter, offered, started, read, noted, told_offer, told_entry, told_page, told}
+use Rattle.ledger.specs.View.{View}
+use Rattle.pool.specs.Day.{no_row, sheet, at_sheet, put, submitted, checks, table, after}
+use Rattle.day.proofs.Passed.{passed, state_passed, closes, settles}
+use Rattle.day.specs.Book.{Offer, Entry, Page, Book, absent, no_page, page, keep, enter, offered, started, read, marked, noted, told_offer, told_entry, told_page, told}
 
 told_at : (es : List Entry) (k : ℕ) → get_or (map told_entry es) k no_figures ≡ told_entry (get_or es k absent)
 told_at [] k = refl
@@ -48,14 +53,23 @@ keep_told b i r p e =
     ap (λ rs. record { facilities = b.facilities; prices = b.prices; rows = rs })
     (ap (set (map told_page b.pages) (i - 1)) e ∙ sym (map-set told_page b.pages (i - 1) p))
 
-pub told_after : (b : Book) (c : Call) → after (told b) c ≡ told (noted b c)
-told_after b (Register a x c t) = refl
-told_after b (Open lo hi) = refl
-told_after b (Lodge f i u w ps) = keep_told b i _ _ (ap (λ r. with_submission r (f - 1) (submitted u w ps.now)) (page_told b i) ∙ offered_told (page b i) f (record { up = u; down = w; curve = curves.curve ps.now }))
-told_after b (Start f i n) = keep_told b i _ _ (ap (λ r. with_start r (f - 1) n) (page_told b i) ∙ started_told (page b i) f n)
-told_after b (Reading f i n) = keep_told b i _ _ (ap (λ r. with_reading r (f - 1) n) (page_told b i) ∙ read_told (page b i) f n)
-told_after b (Position a i c l) = keep_told b i _ _ (ap (λ r. with_position r (a - 1) (record { contract = c; load = l })) (page_told b i))
-told_after b (Demand i n) = keep_told b i _ _ (ap (λ r. with_demand r n) (page_told b i))
-told_after b (Close i k) = keep_told b i _ _ (ap (λ r. with_state r state.Closed) (page_told b i))
-told_after b (Settle i) = keep_told b i _ _ (ap (λ r. with_state r state.Settled) (page_told b i))
-told_after b (Adjust f i n) = keep_told b i _ _ (ap (λ r. with_reading r (f - 1) n) (page_told b i) ∙ read_told (page b i) f n)
+-- the page has the event's place in its state
+page_comes : (b : Book) (i : ℕ) (e : Event) → at_sheet (told b) e i ≡ Ok tt → is_some (next (page b i).state e) ≡ true
+page_comes b i e h =
+    ap (λ (r : Row). is_some (next r.state e)) (sym (page_told b i)) ∙ (state_passed b.facilities b.prices (sheet (told b) i) e i h).1
+
+marked_told : (b : Book) (i : ℕ) (e : Event) (s : State) → unwrap_or (next (page b i).state e) (page b i).state ≡ s → put (told b) i (row_after (sheet (told b) i) e) ≡ told (keep b i (marked (page b i) s))
+marked_told b i e s is = keep_told b i _ _ (ap (λ r. row_after r e) (page_told b i) ∙ ap (with_state (told_page (page b i))) is)
+
+-- a call that passed the table
+pub told_after : (b : Book) (v : View) (c : Call) → table (told b) v c ≡ Ok tt → after (told b) c ≡ told (noted b c)
+told_after b v (Register a x c t) h = refl
+told_after b v (Open lo hi) h = refl
+told_after b v (Lodge f i u w ps) h = keep_told b i _ _ (ap (λ r. with_submission r (f - 1) (submitted u w ps.now)) (page_told b i) ∙ offered_told (page b i) f (record { up = u; down = w; curve = curves.curve ps.now }))
+told_after b v (Start f i n) h = keep_told b i _ _ (ap (λ r. with_start r (f - 1) n) (page_told b i) ∙ started_told (page b i) f n)
+told_after b v (Reading f i n) h = keep_told b i _ _ (ap (λ r. with_reading r (f - 1) n) (page_told b i) ∙ read_told (page b i) f n)
+told_after b v (Position a i c l) h = keep_told b i _ _ (ap (λ r. with_position r (a - 1) (record { contract = c; load = l })) (page_told b i))
+told_after b v (Demand i n) h = keep_told b i _ _ (ap (λ r. with_demand r n) (page_told b i))
+told_after b v (Close i k) h = marked_told b i event.Close state.Closed (closes (page b i).state (page_comes b i event.Close (passed (checks (told b) v (Close i k)) h).1.1.0))
+told_after b v (Settle i) h = marked_told b i event.Settle state.Settled (settles (page b i).state (page_comes b i event.Settle (passed (checks (told b) v (Settle i)) h).1.1.0))
+told_after b v (Adjust f i n) h = keep_told b i _ _ (ap (λ r. with_reading r (f - 1) n) (page_told b i) ∙ read_told (page b i) f n)

@@ -1,5 +1,5 @@
 -- What a call that passed the table tells: each of its checks passed.
-use Rattle.std.proofs.Common.{◌≡◌, ℕ, ◌-◌, ◌<◌, Bool, true, false, cond, ◌&&◌, ltb, leb, List, [], ◌∷◌, map, length, is_some, Some, None, Ok, Err, Option, sym, refl, arith}
+use Rattle.std.proofs.Common.{◌≡◌, ℕ, ◌-◌, ◌<◌, Bool, true, false, cond, ◌&&◌, ltb, leb, List, [], ◌∷◌, map, length, is_some, unwrap_or, Some, None, Ok, Err, Option, sym, refl, arith}
 use lib.ListN.{length-map}
 use Rattle.std.proofs.lemmas.Bool.{ltb-true, leb-true}
 use Rattle.refusals.specs.declared.Refusal.{Refusal}
@@ -9,7 +9,9 @@ use Rattle.sheets.specs.declared.facility.Facility.{Facility}
 use Rattle.sheets.specs.declared.facility.Prices.{Prices}
 use Rattle.sheets.specs.declared.row.Row.{Row}
 use Rattle.sheets.specs.declared.row.State.{State}
+use Rattle.sheets.specs.declared.row.State.TheVariants.{Open, Closed, Settled}
 use Rattle.sheets.specs.declared.row.Event.{Event}
+use Rattle.sheets.specs.declared.row.Event.TheVariants.{Close, Settle}
 use Rattle.sheets.specs.Sheets.{sheet_sound, next}
 use Rattle.pool.specs.Checks.{Check, first, unless}
 use Rattle.pool.specs.Day.{not_open, is_open, interval_known, facility_known, allowed, in_state}
@@ -59,3 +61,14 @@ state_passed fs o r e i p = go (sheet_sound fs o r) (next r.state e) p
     go true None k = absurd (let z : ◌≡◌ {A = ℕ} 0 1 = cc in omega arith)
     go true (Some s) k = (refl, refl)
     go false s k = absurd (let z : ◌≡◌ {A = ℕ} 0 1 = cc in omega arith)
+
+-- a sheet that may be closed is closed by it, and one that may be settled is settled
+pub closes : (s : State) → is_some (next s Close) ≡ true → unwrap_or (next s Close) s ≡ Closed
+closes Open e = refl
+closes Closed e = cc
+closes Settled e = cc
+
+pub settles : (s : State) → is_some (next s Settle) ≡ true → unwrap_or (next s Settle) s ≡ Settled
+settles Open e = cc
+settles Closed e = refl
+settles Settled e = cc

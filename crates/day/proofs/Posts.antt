@@ -15,17 +15,6 @@ use Rattle.day.specs.Law.{Keeps, Goes, day_after, posts_made, written}
 use Rattle.day.proofs.Pages.{told_after}
 use Rattle.day.proofs.Runs.{posted_taken, goes_one}
 
--- ---- from the day to the book
-told_next : (b : Book) (c : Call) (r : Answered) → day_after (told b) c r ≡ told (fed b c r)
-told_next b c (Ok a) = told_after b c
-told_next b c (Err f) = refl
-
-pub posts_written : (b : Book) (cs : List Call) (rs : List Answered) → posts_made (told b) cs rs ≡ written b cs rs
-posts_written b [] rs = refl
-posts_written b (c ∷ cs) [] = refl
-posts_written b (c ∷ cs) (r ∷ rs) =
-    ap (λ ps. made_posts (told b) c r ++ ps) (ap (λ d. posts_made d cs rs) (told_next b c r) ∙ posts_written (fed b c r) cs rs)
-
 -- ---- a call that was lent no ledger
 none_posted : (a : ℕ) (xs : List ℤ) → posts xs ≡ 0 → row_posts a xs ≡ []
 none_posted a [] e = refl
@@ -41,6 +30,11 @@ quiet : {X : Type 0} (wrap : X → Answer) (d : Day) (c : Call) (r : Result X Re
 unfolding full
 quiet wrap d c (Ok a) e does = none_posted 0 (posted d c) (let h = room_for_all full (posted d c) (posted_taken d full c (does full).passes) in omega arith)
 quiet wrap d c (Err f) e does = refl
+
+-- ---- from the day to the book
+told_next : (b : Book) (v : View) (c : Call) (r : Answered) (e : Day) (w : View) → Does (λ x. x) (told b) v c r e w → e ≡ told (fed b c r)
+told_next b v c (Ok a) e w t = t.changes ∙ told_after b v c t.passes
+told_next b v c (Err f) e w t = t.same
 
 did : (d : Day) (v : View) (c : Call) (r : Answered) (e : Day) (w : View) → Does (λ x. x) d v c r e w → e ≡ day_after d c r
 did d v c (Ok a) e w t = t.changes
@@ -72,7 +66,20 @@ module _ {L : Type 0} (view : L → View) (took : L → List Post → L → Type
         let rest = subst (λ k. took y (posts_made k cs rs) z) on (goes_took more f y cs rs e z g.1.1.1.1.1.1) in
         more x y z (made_posts d c r) (posts_made (day_after d c r) cs rs) g.1.1.1.0 rest
 
+    posts_written : (b : Book) (x : L) (cs : List Call) (rs : List Answered) (e : Day) (z : L) → Goes view took (told b) x cs rs e z → posts_made (told b) cs rs ≡ written b cs rs
+    posts_written b x [] rs e z g = refl
+    posts_written b x (c ∷ cs) [] e z g = refl
+    posts_written b x (c ∷ cs) (r ∷ rs) e z g =
+        let y = g.1.0 in
+        let does = g.1.1.1.1.1.0 in
+        let on : g.0 ≡ told (fed b c r) = told_next b (view x) c r g.0 (view y) does in
+        let is : day_after (told b) c r ≡ told (fed b c r) = sym (did (told b) (view x) c r g.0 (view y) does) ∙ on in
+        let rest = subst (λ (k : Day). Goes view took k y cs rs e z) on g.1.1.1.1.1.1 in
+        ap (λ ps. made_posts (told b) c r ++ ps) (ap (λ d. posts_made d cs rs) is ∙ posts_written (fed b c r) y cs rs e z rest)
+
     pub goes_written : (more : (x y z : L) (ps qs : List Post) → took x ps y → took y qs z → took x (ps ++ qs) z)
         (n : ℕ) (d : Day) (x : L) (cs : List Call) (rs : List Answered) (e : Day) (z : L) → d ≡ told (blank n) → Goes view took d x cs rs e z
         → took x (written (blank n) cs rs) z
-    goes_written more n d x cs rs e z h g = subst (λ ps. took x ps z) (ap (λ k. posts_made k cs rs) h ∙ posts_written (blank n) cs rs) (goes_took more d x cs rs e z g)
+    goes_written more n d x cs rs e z h g =
+        let from = subst (λ (k : Day). Goes view took k x cs rs e z) h g in
+        subst (λ ps. took x ps z) (posts_written (blank n) x cs rs e z from) (goes_took more (told (blank n)) x cs rs e z from)

@@ -87,7 +87,7 @@ unfolding between
 stepped balance b v c (Ok a) f u s t = record {
   sum = moves_sum v u (posted (told b) c) (posted_taken (told b) v c t.passes) (posted_sum balance b v c s t.passes) t.moves;
   heeds = (t.passes, (t.answers, t.moves));
-  holds = t.changes ∙ told_after b c;
+  holds = t.changes ∙ told_after b v c t.passes;
   gained = gained_as v u (amount (posted (told b) c)) (between b (noted b c)) (λ k. less_is _ _ _ (gains_noted b v k c s t.passes)) (moves_gained v u (posted (told b) c) t.moves);
   standing = standing_noted b v c s t.passes;
 }

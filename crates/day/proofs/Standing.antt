@@ -18,7 +18,8 @@ use Rattle.sheets.specs.declared.row.Event.{Event}
 use Rattle.sheets.specs.declared.row.Event.TheVariants as event
 use Rattle.sheets.specs.Tests.{if_some, every}
 use Rattle.sheets.specs.Spans.{account_fits, facility_figures, facility_sound, price_figures, prices_sound}
-use Rattle.sheets.specs.Sheets.{sheet_sound, next, reaches, has_load, no_facility, demand_fits, contract_fits, load_fits, with_submission}
+use Rattle.sheets.specs.declared.row.State.{State}
+use Rattle.sheets.specs.Sheets.{with_state, sheet_sound, next, reaches, has_load, no_facility, demand_fits, contract_fits, load_fits, with_submission}
 use Rattle.sheets.proofs.Lists.{all_push, all_at}
 use Rattle.sheets.proofs.Blank.{blank_sheet}
 use Rattle.sheets.proofs.Sheets.{sheet_read, sheet_lodge, sheet_start, sheet_demand, sheet_position, sheet_close, sheet_settle}
@@ -30,7 +31,7 @@ use Rattle.pool.proofs.Passing.{figures_pass, complete_pass}
 use Rattle.pool.proofs.Laying.{submitted_sound}
 use Rattle.day.specs.Book.{Page, Book, blank_page, blank, no_page, keep, noted, told_page, told}
 use Rattle.day.proofs.Pages.{page_told, told_after}
-use Rattle.day.proofs.Passed.{passed, shut_passed, test_passed, interval_within, facility_within, state_passed}
+use Rattle.day.proofs.Passed.{closes, settles, passed, shut_passed, test_passed, interval_within, facility_within, state_passed}
 
 -- blank before the day is open, and a sheet with a state from then on
 abbrev pub Stated : List Facility → Option Prices → Page → Type 0
@@ -133,38 +134,38 @@ standing_noted b v (Open lo hi) s e =
 standing_noted b v (Lodge f i u w ps) s e =
     let p = (passed (checks (told b) v (Lodge f i u w ps)) e).1 in
     let q = p.1.1.1 in
-    turned b s i event.Lodge _ _ p.0 p.1.1.0 (told_after b (Lodge f i u w ps)) refl
+    turned b s i event.Lodge _ _ p.0 p.1.1.0 (told_after b v (Lodge f i u w ps) e) refl
     (λ h n. lodge_sound b.facilities b.prices (sheet (told b) i) f u w ps.now s.facilities (facility_within b.facilities f p.1.0) q.0 q.1.0 q.1.1.0 n h)
 standing_noted b v (Start f i n) s e =
     let p = (passed (checks (told b) v (Start f i n)) e).1 in
-    turned b s i event.Figure _ _ p.0 p.1.1.0 (told_after b (Start f i n)) refl
+    turned b s i event.Figure _ _ p.0 p.1.1.0 (told_after b v (Start f i n) e) refl
     (λ h k. sheet_start b.facilities b.prices (sheet (told b) i) (f - 1) n (facility_within b.facilities f p.1.0) (under n 1000000 p.1.1.1.0) h)
 standing_noted b v (Reading f i n) s e =
     let p = (passed (checks (told b) v (Reading f i n)) e).1 in
-    turned b s i event.Figure _ _ p.0 p.1.1.0 (told_after b (Reading f i n)) refl
+    turned b s i event.Figure _ _ p.0 p.1.1.0 (told_after b v (Reading f i n) e) refl
     (λ h k. sheet_read b.facilities b.prices (sheet (told b) i) (f - 1) n (facility_within b.facilities f p.1.0) (under n 30000000 p.1.1.1.0) h)
 standing_noted b v (Position a i c l) s e =
     let p = (passed (checks (told b) v (Position a i c l)) e).1 in
     let t = figures_pass 1 (contract_fits c ∷ (load_fits l ∷ [])) (sym p.1.1.1.0) in
-    turned b s i event.Figure _ _ p.0 p.1.1.0 (told_after b (Position a i c l)) (length-set (sheet (told b) i).positions (a - 1) (record { contract = c; load = l }))
+    turned b s i event.Figure _ _ p.0 p.1.1.0 (told_after b v (Position a i c l) e) (length-set (sheet (told b) i).positions (a - 1) (record { contract = c; load = l }))
     (λ h k. sheet_position b.facilities b.prices (sheet (told b) i) (a - 1) (record { contract = c; load = l }) k
     (and_both (contract_fits c) (load_fits l) (and_first (contract_fits c) _ t) (and_first (load_fits l) true (and_second (contract_fits c) _ t))) h)
 standing_noted b v (Demand i n) s e =
     let p = (passed (checks (told b) v (Demand i n)) e).1 in
-    turned b s i event.Demand _ _ p.0 p.1.0 (told_after b (Demand i n)) refl
+    turned b s i event.Demand _ _ p.0 p.1.0 (told_after b v (Demand i n) e) refl
     (λ h k. sheet_demand b.facilities b.prices (sheet (told b) i) n k (fits (demand_fits n) p.1.1.0) h)
 standing_noted b v (Close i k) s e =
     let p = (passed (checks (told b) v (Close i k)) e).1 in
     let r = sheet (told b) i in
     let t = test_passed (reaches (figures_on (told b) i) r.demand) (refusal.Short i) p.1.1.1.1.0 in
-    turned b s i event.Close _ _ p.0 p.1.0 (told_after b (Close i k)) refl
-    (λ h n. sheet_close b.facilities b.prices r t h)
+    turned b s i event.Close _ _ p.0 p.1.0 (told_after b v (Close i k) e) refl
+    (λ h n. subst (λ (x : State). sheet_sound b.facilities b.prices (with_state r x) ≡ true) (sym (closes r.state n)) (sheet_close b.facilities b.prices r t h))
 standing_noted b v (Settle i) s e =
     let p = (passed (checks (told b) v (Settle i)) e).1 in
     let r = sheet (told b) i in
-    turned b s i event.Settle _ _ p.0 p.1.0 (told_after b (Settle i)) refl
-    (λ h n. sheet_settle b.facilities b.prices r n (complete_pass 1 (figures_on (told b) i) (sym p.1.1.0)) (test_passed (has_load r.positions) (refusal.NoLoad i) p.1.1.1.0) h)
+    turned b s i event.Settle _ _ p.0 p.1.0 (told_after b v (Settle i) e) refl
+    (λ h n. subst (λ (x : State). sheet_sound b.facilities b.prices (with_state r x) ≡ true) (sym (settles r.state n)) (sheet_settle b.facilities b.prices r n (complete_pass 1 (figures_on (told b) i) (sym p.1.1.0)) (test_passed (has_load r.positions) (refusal.NoLoad i) p.1.1.1.0) h))
 standing_noted b v (Adjust f i n) s e =
     let p = (passed (checks (told b) v (Adjust f i n)) e).1 in
-    turned b s i event.Adjust _ _ p.0 p.1.1.0 (told_after b (Adjust f i n)) refl
+    turned b s i event.Adjust _ _ p.0 p.1.1.0 (told_after b v (Adjust f i n) e) refl
     (λ h k. sheet_read b.facilities b.prices (sheet (told b) i) (f - 1) n (facility_within b.facilities f p.1.0) (under n 30000000 p.1.1.1.0) h)
