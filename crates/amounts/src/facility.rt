@@ -1,5 +1,6 @@
 // What one facility on a sheet metered and is owed, and the sums over an account's facilities.
 ghost use Rattle.std.specs.Prelude.{◌≡◌, ◌≤◌, ℕ, true};
+ghost use Rattle.schedule.specs.Shown.{price_cents};
 ghost use Rattle.merit.specs.Held.{facilities_in, figures_in};
 ghost use Rattle.amounts.specs.Sums.{metered, works, own_part, sum_of, Counts, SumOver};
 
@@ -30,7 +31,7 @@ impl Standing {
 
     // Its own part of a compensation, unrounded; none without a submission.
     fn own_part(&self, price: BalancingPrice) -> u64
-        ensures value { result ≡ own_part price.cents self.now.facility self.now.figures }
+        ensures value { result ≡ own_part (price_cents price) self.now.facility self.now.figures }
         ensures bound { result ≤ 93750000000000000 }
     {
         let Some(submission) = self.figures.submission else {
@@ -78,7 +79,10 @@ pub fn metered(sheet: &Sheet, account: Account) -> u64
 
 // What the account's facilities are owed, unrounded.
 pub fn owed(at: AtPrice, account: Account) -> u64
-    ensures value { result ≡ sum_of (own_part at.entry.price.cents) account.number (facilities_in at.entry.sheet.now) (figures_in at.entry.sheet.now) }
+    ensures value {
+        result ≡ sum_of (own_part (price_cents at.entry.price)) account.number
+        (facilities_in at.entry.sheet.now) (figures_in at.entry.sheet.now)
+    }
     ensures bound { result ≤ 1125000000000000000 }
 {
     sum_over(at.sheet, account, |standing| standing.own_part(at.price))

@@ -2,6 +2,7 @@
 ghost use Rattle.std.specs.Prelude.{◌≡◌, ◌<◌, ◌≤◌, true, ℕ, ℤ, pos, ◌+ℤ◌, ◌-ℤ◌, unsigned_abs, slice_index_or};
 ghost use Rattle.std.specs.List.{AllByRecursion};
 ghost use Rattle.ledger.specs.Sums.{row_sum};
+ghost use Rattle.schedule.specs.Shown.{price_cents};
 ghost use Rattle.sheets.specs.Sheets.{has_load};
 ghost use Rattle.amounts.specs.Amounts as amounts;
 ghost use Rattle.amounts.specs.Held.{held};
@@ -115,8 +116,8 @@ fn less(new: &[i64; 12], old: &[i64; 12]) -> [i64; 12]
 
 // The nets of a sheet less those of another, both at one price.
 fn changes_at(price: BalancingPrice, new: &Sheet, old: &Sheet) -> [i64; 12]
-    ensures { result ≡ changed (amounts.nets (held_at new.now price.cents))
-        (amounts.nets (held_at old.now price.cents)) }
+    ensures { result ≡ changed (amounts.nets (held_at new.now (price_cents price)))
+        (amounts.nets (held_at old.now (price_cents price))) }
 {
     let nets = nets_at(AtPrice { sheet: new, price });
     let were = nets_at(AtPrice { sheet: old, price });

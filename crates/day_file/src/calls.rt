@@ -9,7 +9,7 @@ use offers::pair::Pair;
 use pool::call::Call;
 
 // How many pairs the line brings.
-pub fn pairs_in(line: DayLine) -> usize
+pub(crate) fn pairs_in(line: DayLine) -> usize
     ensures { result ≡ pairs_in_spec line }
 {
     match line {
@@ -20,7 +20,7 @@ pub fn pairs_in(line: DayLine) -> usize
 
 // The call that a line makes with its pairs, if it makes one.
 // Kept: a line is plain data, a call borrows its pairs; one type for both would be generic over the pairs at each of ten cases.
-pub fn call_of<'a>(line: DayLine, pairs: &'a [Pair]) -> Option<Call<'a>>
+pub(crate) fn call_of<'a>(line: DayLine, pairs: &'a [Pair]) -> Option<Call<'a>>
     requires { length pairs.now ≡ pairs_in_spec line }
     ensures { option_map said result ≡ calling line pairs.now }
 {

@@ -38,7 +38,7 @@ fn take_pairs<'a>(memory: &mut &'a mut [Pair], count: usize) -> &'a [Pair]
 }
 
 impl<'a> Plan<'a> {
-    pub fn blank(heap: Global) -> Plan<'a>
+    pub(crate) fn blank(heap: Global) -> Plan<'a>
         ensures { told result ≡ blank_plan }
     {
         Plan {
@@ -82,7 +82,7 @@ impl<'a> Plan<'a> {
     }
 
     // One line more, whose pairs are laid in the memory.
-    pub fn take(
+    pub(crate) fn take(
         &mut self,
         number: u64,
         line: &[u8],

@@ -14,7 +14,7 @@ fn lines(heap: Global, text: &[u8]) -> Result<Vec<&[u8]>, AllocError>
 }
 
 // The plan of the whole file; the pairs of its calls lie in the memory, one lodge behind the other.
-pub fn plan<'a>(
+pub(crate) fn plan<'a>(
     heap: Global,
     text: &[u8],
     mut memory: &'a mut [Pair],

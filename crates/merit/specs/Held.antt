@@ -19,6 +19,9 @@ figures_in s = table s.register.now s.row
 abbrev pub offers_in : Sheet → List Rung
 offers_in s = offers_of (facilities_in s) (figures_in s)
 
+abbrev pub demand_in : Sheet → Option ℕ
+demand_in s = s.row.demand
+
 -- its balancing price and marginal facility
 abbrev pub price_in : Sheet → Option (ℤ × ℕ)
-price_in s = priced_at (facilities_in s) (figures_in s) s.row.demand
+price_in s = priced_at (facilities_in s) (figures_in s) (demand_in s)

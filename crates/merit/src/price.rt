@@ -1,10 +1,11 @@
 // The merit order, the balancing price and the marginal facility of a sheet.
 ghost use Rattle.std.specs.Prelude.{◌≡◌, ◌≤◌, length, is_some};
 ghost use Rattle.std.specs.Option.{option_map};
+ghost use Rattle.schedule.specs.Shown.{price_cents};
 ghost use Rattle.sheets.specs.Sheets.{reaches};
 ghost use Rattle.merit.specs.Prices.{marginal};
 ghost use Rattle.merit.specs.Rungs.{merit_order as ranked_offers};
-ghost use Rattle.merit.specs.Held.{facilities_in, figures_in, offers_in, price_in};
+ghost use Rattle.merit.specs.Held.{facilities_in, figures_in, offers_in, demand_in, price_in};
 ghost use Rattle.merit.specs.Working.{laid, Orders, Clears};
 
 use crate::laying::lay_offers;
@@ -62,8 +63,8 @@ pub fn merit_order(sheet: &Sheet, working: &mut [Rung]) -> Option<usize>
 // The balancing price of the sheet, and the facility that owns the marginal rung.
 // Nothing where there is no demand, or the offers do not reach it: on no closed or settled sheet.
 pub fn balancing_price(sheet: &Sheet) -> Option<(BalancingPrice, u32)>
-    ensures value { option_map (λ x. (x.0.cents, x.1)) result ≡ price_in sheet.now }
-    ensures told { is_some result ≡ reaches (figures_in sheet.now) sheet.now.row.demand }
+    ensures value { option_map (λ x. (price_cents x.0, x.1)) result ≡ price_in sheet.now }
+    ensures told { is_some result ≡ reaches (figures_in sheet.now) (demand_in sheet.now) }
 {
     let demand = sheet.demand()?;
     let mut working = [Rung::blank(); RUNGS];
@@ -75,7 +76,10 @@ pub fn balancing_price(sheet: &Sheet) -> Option<(BalancingPrice, u32)>
 // The same for a sheet that is to be closed, with its merit order laid into the working rungs. Nothing, with nothing changed,
 // where fewer than 96 rungs are lent, there is no demand, or the offers do not reach it.
 pub fn clearing(sheet: &Sheet, working: &mut [Rung]) -> Option<(i64, u32)>
-    ensures { Clears (facilities_in sheet.now) (figures_in sheet.now) sheet.now.row.demand working.old result working.new }
+    ensures {
+        Clears (facilities_in sheet.now) (figures_in sheet.now) (demand_in sheet.now) working.old
+        result working.new
+    }
 {
     let demand = sheet.demand()?;
     if working.len() < RUNGS || sheet.offered() < u64::from(demand) {

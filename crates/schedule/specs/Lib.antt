@@ -4,6 +4,7 @@ pub mod Ramps
 pub mod Blocks
 pub mod Stations
 pub mod Held
+pub mod Shown
 pub mod Levies
 pub mod Claims
 pub mod Figures

@@ -6,6 +6,7 @@ ghost use Rattle.schedule.specs.Rounding as rounding;
 ghost use Rattle.schedule.specs.Ramps as ramps;
 ghost use Rattle.schedule.specs.Blocks as blocking;
 ghost use Rattle.schedule.specs.Blocks.{Tests};
+ghost use Rattle.schedule.specs.Shown.{factor_parts, price_cents};
 
 use crate::ramp::Ramp;
 use crate::round::adjusted_price;
@@ -45,7 +46,7 @@ const NONE: Taken = Taken {
 // The block of a pair, between the energy of the cheaper pairs and the energy through it.
 fn block_between(p: Pair, factor: LossFactor, below: u64, through: u64) -> Block
     requires { below ≤ through }
-    ensures price { result.price ≡ rounding.adjusted p.price factor.value }
+    ensures price { result.price ≡ rounding.adjusted p.price (factor_parts factor) }
     ensures limit { result.limit ≡ through - below }
 {
     Block {
@@ -59,7 +60,7 @@ fn block_between(p: Pair, factor: LossFactor, below: u64, through: u64) -> Block
 pub(crate) fn lay_blocks(ramp: Ramp, factor: LossFactor, curve: &[Pair], slots: &mut [Block])
     requires room { length curve.now ≤ length slots.old }
     requires few { curves.total curve.now ≤ 1000000 }
-    ensures { slots.new ≡ blocking.blocks_from (ramps.energy ramp.start ramp.up ramp.down) factor.value 0 curve.now ++ drop (length curve.now) slots.old }
+    ensures { slots.new ≡ blocking.blocks_from (ramps.energy ramp.start ramp.up ramp.down) (factor_parts factor) 0 curve.now ++ drop (length curve.now) slots.old }
 {
     let mut cheaper = 0;
     let mut below = ramp.energy(0);
@@ -76,7 +77,7 @@ impl Taken {
     fn cost(self, factor: LossFactor, price: BalancingPrice) -> u64
         requires near { blocking.Priced self }
         requires few { self.energy ≤ 30000000 }
-        ensures value { result ≡ blocking.cost_of factor.value price.cents self.block self.energy }
+        ensures value { result ≡ blocking.cost_of (factor_parts factor) (price_cents price) self.block self.energy }
         ensures bound { result ≤ 3125000000 * self.energy }
     {
         self.energy * factor.get() as u64 * self.block.price.abs_diff(price.get())
@@ -87,7 +88,7 @@ impl Taken {
 pub(crate) fn cost_of_all(taken: &[Taken], factor: LossFactor, price: BalancingPrice) -> u64
     requires near { AllByRecursion blocking.Priced taken.now }
     requires few { blocking.energies taken.now ≤ 30000000 }
-    ensures value { result ≡ blocking.costs factor.value price.cents taken.now }
+    ensures value { result ≡ blocking.costs (factor_parts factor) (price_cents price) taken.now }
     ensures bound { result ≤ 93750000000000000 }
 {
     // Kept: what `cost` requires holds at each place of the list; a chain wants one answer for that and one for its sum's bound, and is no shorter.

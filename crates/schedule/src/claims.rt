@@ -2,6 +2,7 @@
 ghost use Rattle.schedule.specs.Claims as claimed;
 ghost use Rattle.schedule.specs.Figures.{Figures};
 ghost use Rattle.schedule.specs.Held.{operation};
+ghost use Rattle.schedule.specs.Shown.{price_cents};
 
 use crate::span::BalancingPrice;
 use crate::station::Station;
@@ -30,7 +31,7 @@ pub fn least_compensation()
 
 // And so for every station: no premise is left.
 pub fn least_paid(station: &Station, price: BalancingPrice)
-    ensures { claimed.LeastPaid (operation station.now) price.cents }
+    ensures { claimed.LeastPaid (operation station.now) (price_cents price) }
 {}
 
 // The levies share out the whole total.

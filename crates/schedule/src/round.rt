@@ -1,6 +1,7 @@
 // Rounded quotients: adjusted prices, and amounts in cents.
 ghost use Rattle.std.specs.Prelude.{◌≡◌, ◌^◌, ◌<◌, ◌≤◌, unsigned_abs};
 ghost use Rattle.schedule.specs.Rounding as rounding;
+ghost use Rattle.schedule.specs.Shown.{factor_parts};
 
 use crate::span::LossFactor;
 
@@ -14,7 +15,7 @@ fn rounded(x: i64, m: u32) -> i64
 
 // 10,000 × price over the loss factor, rounded.
 pub fn adjusted_price(price: i32, factor: LossFactor) -> i64
-    ensures value { result ≡ rounding.adjusted price factor.value }
+    ensures value { result ≡ rounding.adjusted price (factor_parts factor) }
     ensures near { unsigned_abs price ≤ 100000 → unsigned_abs result ≤ 125000 }
 {
     rounded(10_000 * price as i64, factor.get())

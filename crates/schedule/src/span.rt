@@ -16,9 +16,15 @@ pub struct LossFactor {
 }
 
 impl TryFrom<u32> for LossFactor {
+    ghost use Rattle.schedule.specs.Shown.{factor_parts};
+
     type Error = OutOfSpan;
 
-    ghost try_from_gives = { λ value result. MatchResult result (λ f. (factor_fits value ≡ true) × (f.value ≡ value)) (λ _. factor_fits value ≡ false) };
+    ghost try_from_gives = {
+        λ value result. MatchResult result
+        (λ f. (factor_fits value ≡ true) × (factor_parts f ≡ value))
+        (λ _. factor_fits value ≡ false)
+    };
 
     fn try_from(value: u32) -> Result<LossFactor, OutOfSpan> {
         if !(8_000..=12_500).contains(&value) {
@@ -29,9 +35,12 @@ impl TryFrom<u32> for LossFactor {
 }
 
 impl LossFactor {
+    ghost use Rattle.schedule.specs.Shown.{factor_parts};
+
+    // The factor in ten-thousandths.
     // Kept: `get` here and below, as at std's `NonZero`; a `From` would stand beside it and say the same.
     pub fn get(self) -> u32
-        ensures value { result ≡ self.value }
+        ensures value { result ≡ factor_parts self }
         ensures low { 8000 ≤ result }
         ensures high { result ≤ 12500 }
     {
@@ -47,9 +56,15 @@ pub struct BalancingPrice {
 }
 
 impl TryFrom<i64> for BalancingPrice {
+    ghost use Rattle.schedule.specs.Shown.{price_cents};
+
     type Error = OutOfSpan;
 
-    ghost try_from_gives = { λ cents result. MatchResult result (λ p. (balancing_fits cents ≡ true) × (p.cents ≡ cents)) (λ _. balancing_fits cents ≡ false) };
+    ghost try_from_gives = {
+        λ cents result. MatchResult result
+        (λ p. (balancing_fits cents ≡ true) × (price_cents p ≡ cents))
+        (λ _. balancing_fits cents ≡ false)
+    };
 
     fn try_from(cents: i64) -> Result<BalancingPrice, OutOfSpan> {
         if !(-125_000..=125_000).contains(&cents) {
@@ -60,8 +75,11 @@ impl TryFrom<i64> for BalancingPrice {
 }
 
 impl BalancingPrice {
+    ghost use Rattle.schedule.specs.Shown.{price_cents};
+
+    // The price in cents per MWh.
     pub fn get(self) -> i64
-        ensures value { result ≡ self.cents }
+        ensures value { result ≡ price_cents self }
         ensures near { unsigned_abs result ≤ 125000 }
     {
         self.cents

@@ -3,6 +3,7 @@ ghost use Rattle.std.specs.Prelude.{◌≡◌, ◌≤◌, length, take};
 ghost use Rattle.schedule.specs.Blocks as blocking;
 ghost use Rattle.schedule.specs.Stations as stations;
 ghost use Rattle.schedule.specs.Held.{operation};
+ghost use Rattle.schedule.specs.Shown.{price_cents};
 
 use super::Station;
 use crate::block::{Block, Blocks, cost_of_all, divide, lay_blocks};
@@ -25,7 +26,10 @@ impl Station {
     // Its energy out of merit, divided over its blocks: upward the pairs above the price in the curve's order,
     // downward those below it in reverse, each taking what is left up to its limit.
     pub fn blocks(&self, price: BalancingPrice) -> Blocks
-        ensures { result ≡ blocking.divided (stations.energy_counted (operation self.now) price.cents) (stations.blocks_of (operation self.now) price.cents) }
+        ensures {
+            result ≡ blocking.divided (stations.energy_counted (operation self.now) (price_cents price))
+            (stations.blocks_of (operation self.now) (price_cents price))
+        }
     {
         let mut all = [Block { price: 0, limit: 0 }; 8];
         match self.out_of_merit(price) {
@@ -46,7 +50,7 @@ impl Station {
     // Its own part of its account's compensation, unrounded.
     // Kept: the bound goes with the figure wherever it is handed on; a type for it would be taken apart for its number.
     pub fn part(&self, price: BalancingPrice) -> u64
-        ensures value { result ≡ stations.part (operation self.now) price.cents }
+        ensures value { result ≡ stations.part (operation self.now) (price_cents price) }
         ensures bound { result ≤ 93750000000000000 }
     {
         let blocks = self.blocks(price);

@@ -5,6 +5,7 @@ ghost use Rattle.schedule.specs.Blocks as blocking;
 ghost use Rattle.schedule.specs.Blocks.{Tests};
 ghost use Rattle.schedule.specs.Stations as stations;
 ghost use Rattle.schedule.specs.Held.{operation};
+ghost use Rattle.schedule.specs.Shown.{factor_parts, price_cents};
 
 use super::Station;
 use crate::direction::OutOfMerit;
@@ -17,7 +18,7 @@ use offers::pair::Pair;
 fn kw_where<F: Fn(i64) -> bool>(curve: &[Pair], factor: LossFactor, counts: F) -> u32
     requires few { curves.total curve.now ≤ 1000000 }
     requires callable { F.IsAlwaysCallable counts }
-    ensures { (test : ℤ → Bool) → Tests (F.post counts) test → result ≡ blocking.kw_where test factor.value curve.now }
+    ensures { (test : ℤ → Bool) → Tests (F.post counts) test → result ≡ blocking.kw_where test (factor_parts factor) curve.now }
 {
     curve.iter().fold(0, |kw, p| {
         if counts(adjusted_price(p.price, factor)) {
@@ -50,7 +51,7 @@ impl Station {
 
     // The upper schedule: energy of what is offered up to the price.
     pub fn upper(&self, price: BalancingPrice) -> u64
-        ensures { result ≡ stations.upper (operation self.now) price.cents }
+        ensures { result ≡ stations.upper (operation self.now) (price_cents price) }
     {
         let curve = self.submission.curve.listed();
         self.ramp().energy(kw_where(curve, self.factor, |adjusted| adjusted <= price.get()))
@@ -58,7 +59,7 @@ impl Station {
 
     // The lower schedule: energy of what is offered below the price.
     pub fn lower(&self, price: BalancingPrice) -> u64
-        ensures { result ≡ stations.lower (operation self.now) price.cents }
+        ensures { result ≡ stations.lower (operation self.now) (price_cents price) }
     {
         let curve = self.submission.curve.listed();
         self.ramp().energy(kw_where(curve, self.factor, |adjusted| adjusted < price.get()))
@@ -66,7 +67,7 @@ impl Station {
 
     // How far the reading is above the upper schedule or below the lower one, where that passes the tolerance.
     pub fn out_of_merit(&self, price: BalancingPrice) -> OutOfMerit
-        ensures { result ≡ stations.out_of_merit (operation self.now) price.cents }
+        ensures { result ≡ stations.out_of_merit (operation self.now) (price_cents price) }
     {
         let upward = counted(
             self.tolerance,
