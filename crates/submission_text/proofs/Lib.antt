@@ -3,3 +3,6 @@ pub mod Writing
 pub mod Trips
 pub mod Only
 pub mod Claims
+pub mod FirstLines
+pub mod Plans
+pub mod Faults

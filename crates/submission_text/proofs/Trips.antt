@@ -50,7 +50,7 @@ pair_line_text p t =
     ∙ ap (λ l. signed_decimal p.price ++ 58 ∷ l) (append_assoc (decimal p.kw) (10 ∷ []) t)
     ∙ sym (append_assoc (signed_decimal p.price) (58 ∷ decimal p.kw) (10 ∷ t)))
 
-plain_pair : Plain (codes "pair")
+pub plain_pair : Plain (codes "pair")
 plain_pair = record { feed = λ t. refl; past = λ t. refl; name = λ t. refl }
 
 pub low_price : SFits w64 (negsuc 99999)
@@ -92,19 +92,19 @@ head_line_text h t =
     let u = line_text (codes "rampup") h.ramp_up in let d = line_text (codes "rampdown") h.ramp_down in
     append_assoc f (i ++ (u ++ d)) t ∙ ap (λ l. f ++ l) (append_assoc i (u ++ d) t ∙ ap (λ l. i ++ l) (append_assoc u d t))
 
-plain_facility : Plain (codes "facility")
+pub plain_facility : Plain (codes "facility")
 plain_facility = record { feed = λ t. refl; past = λ t. refl; name = λ t. refl }
 
-plain_interval : Plain (codes "interval")
+pub plain_interval : Plain (codes "interval")
 plain_interval = record { feed = λ t. refl; past = λ t. refl; name = λ t. refl }
 
-plain_up : Plain (codes "rampup")
+pub plain_up : Plain (codes "rampup")
 plain_up = record { feed = λ t. refl; past = λ t. refl; name = λ t. refl }
 
-plain_down : Plain (codes "rampdown")
+pub plain_down : Plain (codes "rampdown")
 plain_down = record { feed = λ t. refl; past = λ t. refl; name = λ t. refl }
 
-plain_pairs : Plain (codes "pairs")
+pub plain_pairs : Plain (codes "pairs")
 plain_pairs = record { feed = λ t. refl; past = λ t. refl; name = λ t. refl }
 
 head_back : (h : Head) (t : List ℕ) → HeadFits h → head_of (head_text h ++ t) ≡ Ok (h, t)

@@ -1,11 +1,12 @@
 // Reading the text of a submission, line by line.
-ghost use Rattle.std.specs.Prelude.{◌≡◌, ℕ, ◌+◌, ◌≤◌, List, Result, Ok, IfOk, OnOk};
+ghost use Rattle.std.specs.Prelude.{◌≡◌, ℕ, ◌+◌, ◌≤◌, List, Result, Ok, IfOk, IfErr, OnOk};
 ghost use Rattle.std.specs.Fn.{FnReturnsAt};
 ghost use Rattle.std.specs.Result.{result_map_both as mapped_both};
 ghost use Rattle.text.specs.declared.number.NumberFault.{NumberFault as Fault};
 ghost use Rattle.text.specs.Lines.{line_of, natural_line_of, placed, Reads};
 ghost use Rattle.submission_text.specs.Read.{pair_of, pairs_of, curved, head_of, file_of, read_of};
 ghost use Rattle.submission_text.specs.Claims.{ReadsLines};
+ghost use Rattle.submission_text.specs.Faults.{FirstFault};
 
 use crate::file::{Head, SubmissionFile};
 use offers::curve::Curve;
@@ -47,7 +48,9 @@ impl<'a> Lines<'a> {
         requires callable { F.IsAlwaysCallable read }
         ensures next { OnOk result (self.new.number ≡ self.old.number + 1) }
         ensures told { IfOk result (λ x. (v : List ℕ) × FnReturnsAt F.Fn read v (Ok x)) }
-        ensures value { (reader : List ℕ → Result T Fault) → Reads (FnReturnsAt F.Fn read) reader → mapped_both (λ x. (x, self.new.rest.now)) (λ e. e) result ≡ placed self.old.number (line_of reader key.now self.old.rest.now) }
+        ensures value { (reader : List ℕ → Result T Fault) → Reads (FnReturnsAt F.Fn read) reader
+            → mapped_both (λ x. (x, self.new.rest.now)) (λ e. e) result
+            ≡ placed self.old.number (line_of reader key.now self.old.rest.now) }
     {
         let (x, rest) = on_line(self.number, line_with(self.rest, key, read))?;
         self.rest = rest;
@@ -60,7 +63,8 @@ impl<'a> Lines<'a> {
         requires { self.old.number ≤ 100 }
         ensures next { OnOk result (self.new.number ≡ self.old.number + 1) }
         ensures within { IfOk result (λ n. (low ≤ n) × (n ≤ high)) }
-        ensures value { mapped_both (λ n. (n, self.new.rest.now)) (λ e. e) result ≡ placed self.old.number (natural_line_of key.now low high self.old.rest.now) }
+        ensures value { mapped_both (λ n. (n, self.new.rest.now)) (λ e. e) result
+            ≡ placed self.old.number (natural_line_of key.now low high self.old.rest.now) }
     {
         self.next(key, |value| natural(value, low, high))
     }
@@ -89,7 +93,8 @@ fn read_pairs(lines: &mut Lines, count: usize) -> Result<Curve, Refusal>
     requires first { lines.old.number ≡ 6 }
     requires few { count ≤ 8 }
     ensures next { OnOk result (lines.new.number ≡ 6 + count) }
-    ensures value { mapped_both (λ c. (c, lines.new.rest.now)) (λ e. e) result ≡ curved (pairs_of count lines.old.rest.now) }
+    ensures value { mapped_both (λ c. (c, lines.new.rest.now)) (λ e. e) result
+        ≡ curved (pairs_of count lines.old.rest.now) }
 {
     let mut memory = [Pair { price: 0, kw: 0 }; 8];
     let pairs = &mut memory[..count];
@@ -117,7 +122,8 @@ fn with_curve(head: Head, curve: Curve) -> SubmissionFile
     }
 }
 
-// Kept: apart from `read`, which draws its second clause once from the value told here, and not at each of five exits.
+// Kept: apart from `read`, which draws its other clauses once from the value told here, and not at each
+// of five exits.
 fn read_lines(text: &[u8]) -> Result<SubmissionFile, Refusal>
     ensures { result ≡ read_of text.now }
 {
@@ -138,9 +144,11 @@ fn read_lines(text: &[u8]) -> Result<SubmissionFile, Refusal>
 }
 
 // The whole file: the leading figures, the number of pairs, that many pairs, and nothing after them.
+// Refused, it tells the first faulty line.
 pub fn read(text: &[u8]) -> Result<SubmissionFile, Refusal>
     ensures value { result ≡ read_of text.now }
     ensures lines { ReadsLines text.now result }
+    ensures faulty { IfErr result (λ r. FirstFault text.now r) }
 {
     read_lines(text)
 }

@@ -109,7 +109,7 @@ in_span_ok low high n (Some y) e =
     in let k : ◌≡◌ {A = ℕ} 0 1 = cc in absurd (omega arith))
     (cases_Bool (leb low y && leb y high))
 
-ok_in_span : (low high n : ℕ) → low ≤ n → n ≤ high → in_span low high (Some n) ≡ Ok n
+pub ok_in_span : (low high n : ℕ) → low ≤ n → n ≤ high → in_span low high (Some n) ≡ Ok n
 ok_in_span low high n a b =
     let t : (leb low n && leb n high) ≡ true = grind (arith, nat_tests) in cond-true (leb low n && leb n high) (Ok n) (Err Span) t
 

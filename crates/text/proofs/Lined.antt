@@ -101,7 +101,7 @@ joined_cut b (c ∷ cs) rest e =
     (cases_Bool (eqb c b))
 
 -- a line with the key is the key, `=` and the value
-joined_key : (key line v : List ℕ) → keyed key line ≡ Some v → line ≡ key ++ 61 ∷ v
+pub joined_key : (key line v : List ℕ) → keyed key line ≡ Some v → line ≡ key ++ 61 ∷ v
 joined_key key line v e =
     ⊎_elim
     (λ t. joined_cut 61 line v (sym (cond-true (bytes_eq (before 61 line) key) (after 61 line) None t) ∙ e)

@@ -1,13 +1,13 @@
 // Lines `key=value`, each ended by a line feed.
-ghost use Rattle.std.specs.Prelude.{◌≡◌, ℕ, ◌≤◌, List, Result, Ok, IfOk};
+ghost use Rattle.std.specs.Prelude.{◌≡◌, ℕ, List, Result, Ok, IfOk};
 ghost use Rattle.std.specs.Fn.{FnReturnsAt};
 ghost use Rattle.std.specs.Option.{option_map};
 ghost use Rattle.std.specs.Result.{result_map_both as mapped_both};
 ghost use Rattle.text.specs.declared.line.LineFault.TheVariants.{Number};
 ghost use Rattle.text.specs.declared.number.NumberFault.{NumberFault as Fault};
-ghost use Rattle.text.specs.Lines.{before, after, keyed, line_of, natural_line_of, Reads};
+ghost use Rattle.text.specs.Lines.{before, after, keyed, line_of, Reads};
 
-use crate::number::{NumberFault, natural};
+use crate::number::NumberFault;
 
 // What is wrong with a line.
 #[derive(Clone, Copy, PartialEq, Eq, Debug)]
@@ -58,24 +58,12 @@ pub fn line_with<'a, T: Drop, F: Fn(&[u8]) -> Result<T, NumberFault>>(
 ) -> Result<(T, &'a [u8]), LineFault>
     requires callable { F.IsAlwaysCallable read }
     ensures told { IfOk result (λ x. (v : List ℕ) × FnReturnsAt F.Fn read v (Ok x.0)) }
-    ensures value { (reader : List ℕ → Result T Fault) → Reads (FnReturnsAt F.Fn read) reader → mapped_both (λ x. (x.0, x.1.now)) (λ e. e) result ≡ line_of reader key.now s.now }
+    ensures value { (reader : List ℕ → Result T Fault) → Reads (FnReturnsAt F.Fn read) reader
+        → mapped_both (λ x. (x.0, x.1.now)) (λ e. e) result ≡ line_of reader key.now s.now }
 {
     let (line, rest) = cut(s, b'\n');
     let value = value_of(line, key).ok_or(LineFault::Key)?;
     let x = read(value)?;
     let rest = rest.ok_or(LineFault::Feed)?;
     Ok((x, rest))
-}
-
-// A line `key=number`, and the bytes after it.
-pub fn natural_line<'a>(
-    s: &'a [u8],
-    key: &[u8],
-    low: u64,
-    high: u64,
-) -> Result<(u64, &'a [u8]), LineFault>
-    ensures within { IfOk result (λ x. (low ≤ x.0) × (x.0 ≤ high)) }
-    ensures value { mapped_both (λ x. (x.0, x.1.now)) (λ e. e) result ≡ natural_line_of key.now low high s.now }
-{
-    line_with(s, key, |value| natural(value, low, high))
 }

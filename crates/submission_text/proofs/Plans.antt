@@ -1,0 +1,308 @@
+-- What is read line by line, each line as those before it ask: the first faulty line is told.
+use Rattle.std.proofs.Common.{◌≡◌, ℕ, suc, ◌+◌, ◌↔◌, List, [], ◌∷◌, ◌++◌, Some, None, Ok, Err, codes, Option, Result, sym, refl, ap, ◌∙◌, subst, inl, inr, ⊎_elim, arith}
+use Rattle.std.proofs.lemmas.Bool.{cond-true, cond-false, cases_Bool}
+use Rattle.std.specs.Option.{option_map, option_map_or}
+use Rattle.std.specs.Str.{bytes_eq}
+use Rattle.text.specs.declared.number.NumberFault.{NumberFault}
+use Rattle.text.specs.declared.line.LineFault.{LineFault}
+use Rattle.text.specs.declared.line.LineFault.TheVariants.{Key, Number, Feed, Extra}
+use Rattle.text.specs.declared.refusal.Refusal.{Refusal}
+use Rattle.text.specs.Lines.{before, after, keyed, of_number, valued, ended, line_of, placed}
+use Rattle.text.specs.Refusals.{refusal_number, cause}
+use Rattle.text.proofs.Lined.{Free, Plain, apart_ok, joined_key, line_back}
+use Rattle.submission_text.specs.Read.{and_then, closed}
+use Rattle.submission_text.specs.Faults.{first_lines, line_after, HasKey, CanGoOn, FaultAfter}
+use Rattle.submission_text.proofs.FirstLines as texts
+
+-- what is still to be read: nothing, or a line with a key and a reader of its value, and then as the value says
+pub data Plan (A : Type 0) : Type 1 where
+  done : A → Plan A
+  line : {X : Type 0} → (key : List ℕ) → (List ℕ → Result X NumberFault) → (X → Plan A) → Plan A
+
+-- a text read by a plan, from the given line number
+abbrev pub run : {A : Type 0} → Plan A → ℕ → List ℕ → Result A Refusal
+run (done a) n s = closed n s a
+run (line key f next) n s = and_then (placed n (line_of f key s)) (λ x. run (next x.0) (suc n) x.1)
+
+-- the plan reads the text to its end
+abbrev pub Runs : {A : Type 0} → Plan A → ℕ → List ℕ → Type 0
+Runs {A = A} p n s = (a : A) × (run p n s ≡ Ok a)
+
+-- the key is the one that is due, and some value is read after it
+pub record Sound {X : Type 0} (due key : List ℕ) (f : List ℕ → Result X NumberFault) : Type 0 where
+  pub own : key ≡ due
+  pub plain : Plain key
+  pub sample : List ℕ
+  pub value : X
+  pub read : f sample ≡ Ok value
+  pub free : Free 10 sample
+
+-- each line of the plan is sound
+abbrev pub Good : {A : Type 0} → Plan A → (ℕ → List ℕ) → Type 0
+Good (done a) due = Unit {0}
+Good (line {X = X} key f next) due = Sound (due 0) key f × ((x : X) → Good (next x) (λ k. due (suc k)))
+
+-- ---- the law, from one kind of texts to another
+pub record Carries (P Q : List ℕ → Type 0) (due need : ℕ → List ℕ) (s t : List ℕ) (k m : ℕ) : Type 0 where
+  begun : CanGoOn P k s → CanGoOn Q m t
+  faulty : CanGoOn Q (suc m) t → CanGoOn P (suc k) s
+  whole : P (first_lines k s) ↔ Q (first_lines m t)
+  key : HasKey (due k) (line_after k s) ↔ HasKey (need m) (line_after m t)
+  fed : CanGoOn P (suc k) (s ++ codes "\n") ↔ CanGoOn Q (suc m) (t ++ codes "\n")
+
+carried : (P Q : List ℕ → Type 0) (due need : ℕ → List ℕ) (s t : List ℕ) (k m number : ℕ)
+    → Carries P Q due need s t k m → FaultAfter P due s k number → FaultAfter Q need t m number
+carried P Q due need s t k m number c h =
+    record {
+      begun = c.begun h.begun;
+      faulty = λ z. h.faulty (c.faulty z);
+      wrong_key = (
+        (λ e. let y = h.wrong_key.0 e in ((λ a. y.0 (c.whole.1 a)), (λ a. y.1 (c.key.1 a)))),
+        (λ y. h.wrong_key.1 ((λ a. y.0 (c.whole.0 a)), (λ a. y.1 (c.key.0 a)))),
+      );
+      bad_number = (
+        (λ e. let y = h.bad_number.0 e in ((λ a. y.0 (c.whole.1 a)), c.key.0 y.1, (λ a. y.2 (c.fed.1 a)))),
+        (λ y. h.bad_number.1 ((λ a. y.0 (c.whole.0 a)), c.key.1 y.1, (λ a. y.2 (c.fed.0 a)))),
+      );
+      bad_end = (
+        (λ e. ⊎_elim (λ a. inl (c.whole.0 a)) (λ a. inr (c.fed.0 a)) (h.bad_end.0 e)),
+        (λ y. h.bad_end.1 (⊎_elim (λ a. inl (c.whole.1 a)) (λ a. inr (c.fed.1 a)) y)),
+      );
+    }
+
+both_go_on : (P Q : List ℕ → Type 0) → ((t : List ℕ) → P t → Q t) → (n : ℕ) (s : List ℕ) → CanGoOn P n s → CanGoOn Q n s
+both_go_on P Q f n s z = (z.0, f z.0 z.1, z.2)
+
+-- the same texts in other words
+pub retold : (P Q : List ℕ → Type 0) (due : ℕ → List ℕ) (s : List ℕ) (k number : ℕ) → ((t : List ℕ) → P t ↔ Q t)
+    → FaultAfter P due s k number → FaultAfter Q due s k number
+retold P Q due s k number f h =
+    carried P Q due due s s k k number
+    (record {
+      begun = both_go_on P Q (λ t. (f t).0) k s;
+      faulty = both_go_on Q P (λ t. (f t).1) (suc k) s;
+      whole = f (first_lines k s);
+      key = ((λ a. a), (λ a. a));
+      fed = (both_go_on P Q (λ t. (f t).0) (suc k) (s ++ codes "\n"), both_go_on Q P (λ t. (f t).1) (suc k) (s ++ codes "\n"));
+    }) h
+
+-- ---- a plan that is done
+done_runs : {A : Type 0} (a : A) (n : ℕ) (t : List ℕ) → Runs (done a) n t → t ≡ []
+done_runs a n [] z = refl
+done_runs a n (c ∷ cs) z = absurd (apart_ok _ z.0 z.1)
+
+extra : {A : Type 0} (a : A) (due : ℕ → List ℕ) (n c : ℕ) (cs : List ℕ) → FaultAfter (Runs (done a) n) due (c ∷ cs) 0 22
+extra a due n c cs =
+    record {
+      begun = ([], (a, refl), refl);
+      faulty = λ z. texts.first_bytes c cs (sym (ap (first_lines 1) (done_runs a n z.0 z.1)) ∙ z.2);
+      wrong_key = ((λ e. absurd (omega arith)), (λ y. absurd (y.0 (a, refl))));
+      bad_number = ((λ e. absurd (omega arith)), (λ y. absurd (y.0 (a, refl))));
+      bad_end = ((λ e. inl (a, refl)), (λ y. refl));
+    }
+
+-- ---- a line
+keyed_none : (key : List ℕ) → keyed key [] ≡ None
+keyed_none key =
+    ⊎_elim
+    (λ t. cond-true (bytes_eq [] key) None None t)
+    (λ f. cond-false (bytes_eq [] key) None None f)
+    (cases_Bool (bytes_eq [] key))
+
+module _ {A X : Type 0} (key : List ℕ) (f : List ℕ → Result X NumberFault) (next : X → Plan A) (n : ℕ) where
+  abbrev plan : Plan A
+  plan = line key f next
+
+  -- what is made of the value of the first line
+  abbrev first : List ℕ → Result X LineFault
+  first s = valued f (keyed key (before 10 s))
+
+  goes_on : (s rest : List ℕ) (x : X) → first s ≡ Ok x → after 10 s ≡ Some rest → run plan n s ≡ run (next x) (suc n) rest
+  goes_on s rest x a b =
+      ap (λ r. and_then (placed n (ended r (after 10 s))) (λ x. run (next x.0) (suc n) x.1)) a
+      ∙ ap (λ o. and_then (placed n (ended (Ok x) o)) (λ x. run (next x.0) (suc n) x.1)) b
+
+  stops : (s : List ℕ) (e : LineFault) → first s ≡ Err e → run plan n s ≡ Err record { line = n; fault = e }
+  stops s e a = ap (λ r. and_then (placed n (ended r (after 10 s))) (λ x. run (next x.0) (suc n) x.1)) a
+
+  unfed : (s : List ℕ) (x : X) → first s ≡ Ok x → after 10 s ≡ None → run plan n s ≡ Err record { line = n; fault = Feed }
+  unfed s x a b =
+      ap (λ r. and_then (placed n (ended r (after 10 s))) (λ x. run (next x.0) (suc n) x.1)) a
+      ∙ ap (λ o. and_then (placed n (ended (Ok x) o)) (λ x. run (next x.0) (suc n) x.1)) b
+
+  refuted : (s : List ℕ) (r : Refusal) → run plan n s ≡ Err r → Runs plan n s → ⊥
+  refuted s r e z = apart_ok r z.0 (sym e ∙ z.1)
+
+  no_bytes : Runs plan n [] → ⊥
+  no_bytes z = refuted [] _ (stops [] Key (ap (valued f) (keyed_none key))) z
+
+  -- ---- the first line is read
+  module _ (x : X) where
+    module _ (s rest : List ℕ) (read : first s ≡ Ok x) (fed : after 10 s ≡ Some rest) where
+      out : (m : ℕ) → CanGoOn (Runs plan n) (suc m) s → CanGoOn (Runs (next x) (suc n)) m rest
+      out m z =
+          let t = z.0 in
+          let o = texts.same_rest m s t z.2 rest fed in
+          let same : first t ≡ Ok x = ap (λ l. valued f (keyed key l)) (texts.same_front m s t z.2) ∙ read in
+          (o.0, (z.1.0, sym (goes_on t o.0 x same o.1) ∙ z.1.1), o.2)
+
+      back : (m : ℕ) → CanGoOn (Runs (next x) (suc n)) m rest → CanGoOn (Runs plan n) (suc m) s
+      back m z =
+          let t = before 10 s ++ 10 ∷ z.0 in
+          let front = texts.line_front s z.0 in
+          let behind = texts.line_back s z.0 in
+          let same : first t ≡ Ok x = ap (λ l. valued f (keyed key l)) front ∙ read in (
+            t,
+            (z.1.0, goes_on t z.0 x same behind ∙ z.1.1),
+            texts.first_of m t z.0 behind ∙ ap (λ l. l ++ 10 ∷ first_lines m z.0) front ∙ ap (λ l. before 10 s ++ 10 ∷ l) z.2 ∙ sym (texts.first_of m s rest fed),
+          )
+
+      whole : (m : ℕ) → run plan n (first_lines (suc m) s) ≡ run (next x) (suc n) (first_lines m rest)
+      whole m =
+          goes_on (first_lines (suc m) s) (first_lines m rest) x
+          (ap (λ l. valued f (keyed key l)) (texts.first_front m s) ∙ read)
+          (texts.first_back m s ∙ ap (option_map (first_lines m)) fed)
+
+    onward : (due : ℕ → List ℕ) (s rest : List ℕ) (k number : ℕ) → first s ≡ Ok x → after 10 s ≡ Some rest
+        → FaultAfter (Runs (next x) (suc n)) (λ k. due (suc k)) rest k number → FaultAfter (Runs plan n) due s (suc k) number
+    onward due s rest k number read fed h =
+        let feed = codes "\n" in
+        let read' : first (s ++ feed) ≡ Ok x = ap (λ l. valued f (keyed key l)) (texts.longer_front s rest feed fed) ∙ read in
+        let fed' = texts.longer_back s rest feed fed in
+        let same : run plan n (first_lines (suc k) s) ≡ run (next x) (suc n) (first_lines k rest) = whole s rest read fed k in
+        let at : line_after (suc k) s ≡ line_after k rest = ap (λ o. option_map_or (line_after k) o []) fed in
+        carried (Runs (next x) (suc n)) (Runs plan n) (λ k. due (suc k)) due rest s k (suc k) number
+        (record {
+          begun = back s rest read fed k;
+          faulty = out s rest read fed (suc k);
+          whole = ((λ a. (a.0, same ∙ a.1)), (λ a. (a.0, sym same ∙ a.1)));
+          key = (subst (HasKey (due (suc k))) (sym at), subst (HasKey (due (suc k))) at);
+          fed = (back (s ++ feed) (rest ++ feed) read' fed' (suc k), out (s ++ feed) (rest ++ feed) read' fed' (suc k));
+        }) h
+
+  -- ---- the first line is not read
+  module _ (due : ℕ → List ℕ) (sound : Sound (due 0) key f) (sample : (t : List ℕ) × Runs plan n t) (s : List ℕ) where
+    begun : CanGoOn (Runs plan n) 0 s
+    begun = (sample.0, sample.1, refl)
+
+    no_key : keyed key (before 10 s) ≡ None → HasKey (due 0) (line_after 0 s) → ⊥
+    no_key e z =
+        let v = z.0 in
+        let named : before 10 s ≡ key ++ 61 ∷ v = z.1 ∙ ap (λ d. d ++ 61 ∷ v) (sym sound.own) in
+        texts.none_some v (sym e ∙ ap (keyed key) named ∙ sound.plain.name v)
+
+    has_key : (v : List ℕ) → keyed key (before 10 s) ≡ Some v → HasKey (due 0) (line_after 0 s)
+    has_key v e = (v, joined_key key (before 10 s) v e ∙ ap (λ d. d ++ 61 ∷ v) sound.own)
+
+    -- no text with this line is read
+    unread : (e : LineFault) → first s ≡ Err e → (t : List ℕ) → before 10 t ≡ before 10 s → Runs plan n t → ⊥
+    unread e a t q = refuted t _ (stops t e (ap (λ l. valued f (keyed key l)) q ∙ a))
+
+    never : (e : LineFault) → first s ≡ Err e → CanGoOn (Runs plan n) 1 s → ⊥
+    never e a z = unread e a z.0 (texts.same_front 0 s z.0 z.2) z.1
+
+    never_fed : (e : LineFault) → first s ≡ Err e → CanGoOn (Runs plan n) 1 (s ++ codes "\n") → ⊥
+    never_fed e a z = unread e a z.0 (texts.same_front 0 (s ++ codes "\n") z.0 z.2 ∙ texts.closed_front s) z.1
+
+    wrong_key : keyed key (before 10 s) ≡ None → FaultAfter (Runs plan n) due s 0 20
+    wrong_key e =
+        let a : first s ≡ Err Key = ap (valued f) e in
+        record {
+          begun = begun;
+          faulty = never Key a;
+          wrong_key = ((λ q. (no_bytes, no_key e)), (λ y. refl));
+          bad_number = ((λ q. absurd (omega arith)), (λ y. absurd (no_key e y.1)));
+          bad_end = ((λ q. absurd (omega arith)), (λ y. absurd (⊎_elim no_bytes (never_fed Key a) y)));
+        }
+
+    bad_number : (v : List ℕ) (d : NumberFault) → keyed key (before 10 s) ≡ Some v → f v ≡ Err d → FaultAfter (Runs plan n) due s 0 21
+    bad_number v d e b =
+        let a : first s ≡ Err (Number d) = ap (valued f) e ∙ ap of_number b in
+        record {
+          begun = begun;
+          faulty = never (Number d) a;
+          wrong_key = ((λ q. absurd (omega arith)), (λ y. absurd (y.1 (has_key v e))));
+          bad_number = ((λ q. (no_bytes, has_key v e, never_fed (Number d) a)), (λ y. refl));
+          bad_end = ((λ q. absurd (omega arith)), (λ y. absurd (⊎_elim no_bytes (never_fed (Number d) a) y)));
+        }
+
+    bad_end : (v : List ℕ) (x : X) → keyed key (before 10 s) ≡ Some v → f v ≡ Ok x → after 10 s ≡ None
+        → ((t : List ℕ) × Runs (next x) (suc n) t) → FaultAfter (Runs plan n) due s 0 22
+    bad_end v x e b fed more =
+        let a : first s ≡ Ok x = ap (valued f) e ∙ ap of_number b in
+        let feed = codes "\n" in
+        let whole : CanGoOn (Runs plan n) 1 (s ++ feed) =
+        back x (s ++ feed) [] (ap (λ l. valued f (keyed key l)) (texts.closed_front s) ∙ a) (texts.closed_back s fed) 0 (more.0, more.1, refl) in
+        record {
+          begun = begun;
+          faulty = λ z. refuted z.0 _ (unfed z.0 x (ap (λ l. valued f (keyed key l)) (texts.same_front 0 s z.0 z.2) ∙ a) (texts.same_end 0 s z.0 z.2 fed)) z.1;
+          wrong_key = ((λ q. absurd (omega arith)), (λ y. absurd (y.1 (has_key v e))));
+          bad_number = ((λ q. absurd (omega arith)), (λ y. absurd (y.2 whole)));
+          bad_end = ((λ q. inr whole), (λ y. refl));
+        }
+
+-- ---- every plan
+-- a sound plan reads some text
+sample_of : {A : Type 0} (p : Plan A) (due : ℕ → List ℕ) → Good p due → (n : ℕ) → (t : List ℕ) × Runs p n t
+sample_of (done a) due g n = ([], (a, refl))
+sample_of (line key f next) due g n =
+    let l = g.0 in
+    let more = sample_of (next l.value) (λ k. due (suc k)) (g.1 l.value) (suc n) in (
+      key ++ 61 ∷ (l.sample ++ 10 ∷ more.0),
+      (
+        more.1.0,
+        ap (λ y. and_then (placed n y) (λ x. run (next x.0) (suc n) x.1)) (line_back f key l.plain l.sample l.value more.0 l.free l.read) ∙ more.1.1,
+      ),
+    )
+
+abbrev pub Faulty : {A : Type 0} → Plan A → (ℕ → List ℕ) → ℕ → List ℕ → Refusal → Type 0
+Faulty p due n s r = (k : ℕ) × (r.line ≡ n + k) × FaultAfter (Runs p n) due s k (refusal_number (cause r.fault))
+
+same_err : {X E : Type 0} (d e : E) → ◌≡◌ {A = Result X E} (Err d) (Err e) → d ≡ e
+same_err d e q = cc
+
+-- a fault of the first line, or of bytes past the last
+at_once : {A : Type 0} (p : Plan A) (due : ℕ → List ℕ) (n : ℕ) (s : List ℕ) (e : LineFault) (r : Refusal)
+    → run p n s ≡ Err record { line = n; fault = e } → run p n s ≡ Err r → FaultAfter (Runs p n) due s 0 (refusal_number (cause e)) → Faulty p due n s r
+at_once {A = A} p due n s e r a b h =
+    let q : Refusal = record { line = n; fault = e } in
+    let start : q.line ≡ n + 0 = omega arith in
+    subst (Faulty p due n s) (same_err {X = A} q r (sym a ∙ b)) (0, start, h)
+
+module _ {A X : Type 0} (key : List ℕ) (f : List ℕ → Result X NumberFault) (next : X → Plan A) (due : ℕ → List ℕ) (n : ℕ) (s : List ℕ) (r : Refusal)
+    (g : Good (line key f next) due)
+    (later : (x : X) (rest : List ℕ) → run (next x) (suc n) rest ≡ Err r → Faulty (next x) (λ k. due (suc k)) (suc n) rest r)
+    (e : run (line key f next) n s ≡ Err r) where
+  abbrev whole_plan : Plan A
+  whole_plan = line key f next
+
+  sample : (t : List ℕ) × Runs whole_plan n t
+  sample = sample_of whole_plan due g n
+
+  by_feed : (v : List ℕ) (x : X) → keyed key (before 10 s) ≡ Some v → f v ≡ Ok x → (o : Option (List ℕ)) → after 10 s ≡ o → Faulty whole_plan due n s r
+  by_feed v x a b None c =
+      let read : first key f next n s ≡ Ok x = ap (valued f) a ∙ ap of_number b in
+      at_once whole_plan due n s Feed r (unfed key f next n s x read c) e
+      (bad_end key f next n due g.0 sample s v x a b c (sample_of (next x) (λ k. due (suc k)) (g.1 x) (suc n)))
+  by_feed v x a b (Some rest) c =
+      let read : first key f next n s ≡ Ok x = ap (valued f) a ∙ ap of_number b in
+      let h = later x rest (sym (goes_on key f next n s rest x read c) ∙ e) in
+      let at = h.1 in
+      (suc h.0, omega arith, onward key f next n x due s rest h.0 (refusal_number (cause r.fault)) read c h.2)
+
+  by_number : (v : List ℕ) → keyed key (before 10 s) ≡ Some v → (y : Result X NumberFault) → f v ≡ y → Faulty whole_plan due n s r
+  by_number v a (Ok x) b = by_feed v x a b (after 10 s) refl
+  by_number v a (Err d) b =
+      at_once whole_plan due n s (Number d) r (stops key f next n s (Number d) (ap (valued f) a ∙ ap of_number b)) e
+      (bad_number key f next n due g.0 sample s v d a b)
+
+  by_key : (o : Option (List ℕ)) → keyed key (before 10 s) ≡ o → Faulty whole_plan due n s r
+  by_key None a =
+      at_once whole_plan due n s Key r (stops key f next n s Key (ap (valued f) a)) e (wrong_key key f next n due g.0 sample s a)
+  by_key (Some v) a = by_number v a (f v) refl
+
+pub first_faulty : {A : Type 0} (p : Plan A) (due : ℕ → List ℕ) → Good p due → (n : ℕ) (s : List ℕ) (r : Refusal) → run p n s ≡ Err r → Faulty p due n s r
+first_faulty (done a) due g n [] r e = absurd (apart_ok r a (sym e))
+first_faulty (done a) due g n (c ∷ cs) r e = at_once (done a) due n (c ∷ cs) Extra r refl e (extra a due n c cs)
+first_faulty (line key f next) due g n s r e =
+    by_key key f next due n s r g (λ x rest q. first_faulty (next x) (λ k. due (suc k)) (g.1 x) (suc n) rest r q) e (keyed key (before 10 s)) refl
