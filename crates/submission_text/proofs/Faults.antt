@@ -31,31 +31,36 @@ file_plan =
     pairs_plan record { facility = f; interval = i; ramp_up = u; ramp_down = d } n 1000000 [])))))
 
 -- ---- it reads what the definition reads
-then_same : {X Y E : Type 0} (r : Result X E) (f g : X → Result Y E) → ((x : X) → f x ≡ g x) → and_then r f ≡ and_then r g
+then_same : {X Y E : Type 0} (r : Result X E) (f g : X → Result Y E)
+    → ((x : X) → f x ≡ g x) → and_then r f ≡ and_then r g
 then_same (Ok x) f g h = h x
 then_same (Err e) f g h = refl
 
-then_joined : {X Y Z E : Type 0} (r : Result X E) (f : X → Result Y E) (g : Y → Result Z E) (h : X → Result Z E)
-    → ((x : X) → and_then (f x) g ≡ h x) → and_then (and_then r f) g ≡ and_then r h
+then_joined : {X Y Z E : Type 0} (r : Result X E) (f : X → Result Y E) (g : Y → Result Z E)
+    (h : X → Result Z E) → ((x : X) → and_then (f x) g ≡ h x) → and_then (and_then r f) g ≡ and_then r h
 then_joined (Ok x) f g h k = k x
 then_joined (Err e) f g h k = refl
 
+-- the file of these pairs, if nothing follows them
+abbrev filed : Head → ℕ → Result (List Pair × List ℕ) Refusal → Result SubmissionFile Refusal
+filed h end r = and_then (curved r) (λ q. closed end q.1 (file_of h q.0))
+
 pairs_run : (h : Head) (n at end room : ℕ) (ps : List Pair) (s : List ℕ) → at + n ≡ end
-    → and_then (curved (pairs_from n at room ps s)) (λ q. closed end q.1 (file_of h q.0)) ≡ run (pairs_plan h n room ps) at s
+    → filed h end (pairs_from n at room ps s) ≡ run (pairs_plan h n room ps) at s
 pairs_run h zero at end room ps s e =
     let q : end ≡ at = omega arith in ap (λ k. closed k s (file_of h (stored (curve ps)))) q
 pairs_run h (suc n) at end room ps s e =
-    one_more (placed at (pair_line_of room s)) (λ x. pairs_run h n (suc at) end (room - x.0.kw) (ps ++ (x.0 ∷ [])) x.1 (omega arith))
+    one_more (placed at (pair_line_of room s))
+    (λ x. pairs_run h n (suc at) end (room - x.0.kw) (ps ++ (x.0 ∷ [])) x.1 (omega arith))
   where
     one_more : (r : Result (Pair × List ℕ) Refusal)
-        → ((x : Pair × List ℕ) → and_then (curved (pairs_from n (suc at) (room - x.0.kw) (ps ++ (x.0 ∷ [])) x.1)) (λ q. closed end q.1 (file_of h q.0))
+        → ((x : Pair × List ℕ) → filed h end (pairs_from n (suc at) (room - x.0.kw) (ps ++ (x.0 ∷ [])) x.1)
         ≡ run (pairs_plan h n (room - x.0.kw) (ps ++ (x.0 ∷ []))) (suc at) x.1)
-        → and_then (curved (and_then r (λ x. pairs_from n (at + 1) (room - x.0.kw) (ps ++ (x.0 ∷ [])) x.1))) (λ q. closed end q.1 (file_of h q.0))
+        → filed h end (and_then r (λ x. pairs_from n (at + 1) (room - x.0.kw) (ps ++ (x.0 ∷ [])) x.1))
         ≡ and_then r (λ x. run (pairs_plan h n (room - x.0.kw) (ps ++ (x.0 ∷ []))) (suc at) x.1)
     one_more (Err d) k = refl
     one_more (Ok x) k =
-        ap (λ m. and_then (curved (pairs_from n m (room - x.0.kw) (ps ++ (x.0 ∷ [])) x.1)) (λ q. closed end q.1 (file_of h q.0))) (add-one at)
-        ∙ k x
+        ap (λ m. filed h end (pairs_from n m (room - x.0.kw) (ps ++ (x.0 ∷ [])) x.1)) (add-one at) ∙ k x
 
 file_run : (s : List ℕ) → read_of s ≡ run file_plan 1 s
 file_run s =
@@ -63,14 +68,18 @@ file_run s =
     then_joined (placed 2 (natural_line_of (codes "interval") 1 48 f.1)) _ _ _ (λ i.
     then_joined (placed 3 (natural_line_of (codes "rampup") 1 1000000 i.1)) _ _ _ (λ u.
     then_joined (placed 4 (natural_line_of (codes "rampdown") 1 1000000 u.1)) _ _ _ (λ d.
+    let h : Head = record { facility = f.0; interval = i.0; ramp_up = u.0; ramp_down = d.0 } in
     then_same (placed 5 (natural_line_of (codes "pairs") 0 8 d.1)) _ _ (λ n.
-    pairs_run record { facility = f.0; interval = i.0; ramp_up = u.0; ramp_down = d.0 } n.0 6 (6 + n.0) 1000000 [] n.1 refl)))))
+    pairs_run h n.0 6 (6 + n.0) 1000000 [] n.1 refl)))))
 
--- ---- its lines
-sound_figure : (key : List ℕ) (low high : ℕ) → Plain key → natural_of low high (codes "1") ≡ Ok 1 → Sound key key (natural_of low high)
-sound_figure key low high k e = record { own = refl; plain = k; sample = codes "1"; value = 1; read = e; free = (refl, tt) }
+-- ---- its lines are sound
+sound_figure : (key : List ℕ) (low high : ℕ) → Plain key → natural_of low high (codes "1") ≡ Ok 1
+    → Sound key key (natural_of low high)
+sound_figure key low high k e =
+    record { own = refl; plain = k; sample = codes "1"; value = 1; read = e; free = (refl, tt) }
 
-sound_pair : (room : ℕ) (due : List ℕ) → codes "pair" ≡ due → Sound due (codes "pair") (pair_of room)
+sound_pair : (room : ℕ) (due : List ℕ) → codes "pair" ≡ due
+    → Sound due (codes "pair") (pair_of room)
 sound_pair room due e =
     record {
       own = e;
@@ -81,29 +90,33 @@ sound_pair room due e =
       free = (refl, (refl, (refl, tt)));
     }
 
-pairs_good : (h : Head) (n room : ℕ) (ps : List Pair) (due : ℕ → List ℕ) → ((k : ℕ) → codes "pair" ≡ due k) → Good (pairs_plan h n room ps) due
+pairs_good : (h : Head) (n room : ℕ) (ps : List Pair) (due : ℕ → List ℕ)
+    → ((k : ℕ) → codes "pair" ≡ due k) → Good (pairs_plan h n room ps) due
 pairs_good h zero room ps due e = tt
 pairs_good h (suc n) room ps due e =
-    (sound_pair room (due 0) (e 0), λ p. pairs_good h n (room - p.kw) (ps ++ (p ∷ [])) (λ k. due (suc k)) (λ k. e (suc k)))
+    let later = λ (k : ℕ). due (suc k) in
+    (sound_pair room (due 0) (e 0), λ p. pairs_good h n (room - p.kw) (ps ++ (p ∷ [])) later (λ k. e (suc k)))
 
 file_good : Good file_plan due_key
-file_good = (
-  sound_figure (codes "facility") 1 12 plain_facility refl,
-  λ f. (
-    sound_figure (codes "interval") 1 48 plain_interval refl,
-    λ i. (
-      sound_figure (codes "rampup") 1 1000000 plain_up refl,
-      λ u. (
-        sound_figure (codes "rampdown") 1 1000000 plain_down refl,
-        λ d. (
-          sound_figure (codes "pairs") 0 8 plain_pairs refl,
-          λ n.
-              pairs_good record { facility = f; interval = i; ramp_up = u; ramp_down = d } n 1000000 [] (λ k. due_key (suc (suc (suc (suc (suc k)))))) (λ k. refl),
+file_good =
+    let later = λ (k : ℕ). due_key (suc (suc (suc (suc (suc k))))) in (
+      sound_figure (codes "facility") 1 12 plain_facility refl,
+      λ f. (
+        sound_figure (codes "interval") 1 48 plain_interval refl,
+        λ i. (
+          sound_figure (codes "rampup") 1 1000000 plain_up refl,
+          λ u. (
+            sound_figure (codes "rampdown") 1 1000000 plain_down refl,
+            λ d. (
+              sound_figure (codes "pairs") 0 8 plain_pairs refl,
+              λ n.
+                  let h : Head = record { facility = f; interval = i; ramp_up = u; ramp_down = d } in
+                  pairs_good h n 1000000 [] later (λ k. refl),
+            ),
+          ),
         ),
       ),
-    ),
-  ),
-)
+    )
 
 pub first_fault : (s : List ℕ) (r : Refusal) → read_of s ≡ Err r → FirstFault s r
 first_fault s r e =

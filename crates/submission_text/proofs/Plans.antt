@@ -9,12 +9,13 @@ use Rattle.text.specs.declared.line.LineFault.TheVariants.{Key, Number, Feed, Ex
 use Rattle.text.specs.declared.refusal.Refusal.{Refusal}
 use Rattle.text.specs.Lines.{before, after, keyed, of_number, valued, ended, line_of, placed}
 use Rattle.text.specs.Refusals.{refusal_number, cause}
-use Rattle.text.proofs.Lined.{Free, Plain, apart_ok, joined_key, line_back}
+use Rattle.text.proofs.Lined.{Free, Plain, apart_ok, joined_key, line_back, apart_some}
 use Rattle.submission_text.specs.Read.{and_then, closed}
-use Rattle.submission_text.specs.Faults.{first_lines, line_after, HasKey, CanGoOn, FaultAfter}
+use Rattle.submission_text.specs.Faults.{first_lines, line_after, HasKey, CanGoOn, IsWhole, FeedMends, FaultAfter}
 use Rattle.submission_text.proofs.FirstLines as texts
 
--- what is still to be read: nothing, or a line with a key and a reader of its value, and then as the value says
+-- what is still to be read: nothing, or a line with a key and a reader of its value,
+-- and then as the value says
 pub data Plan (A : Type 0) : Type 1 where
   done : A → Plan A
   line : {X : Type 0} → (key : List ℕ) → (List ℕ → Result X NumberFault) → (X → Plan A) → Plan A
@@ -43,12 +44,12 @@ Good (done a) due = Unit {0}
 Good (line {X = X} key f next) due = Sound (due 0) key f × ((x : X) → Good (next x) (λ k. due (suc k)))
 
 -- ---- the law, from one kind of texts to another
-pub record Carries (P Q : List ℕ → Type 0) (due need : ℕ → List ℕ) (s t : List ℕ) (k m : ℕ) : Type 0 where
+record Carries (P Q : List ℕ → Type 0) (due need : ℕ → List ℕ) (s t : List ℕ) (k m : ℕ) : Type 0 where
   begun : CanGoOn P k s → CanGoOn Q m t
   faulty : CanGoOn Q (suc m) t → CanGoOn P (suc k) s
-  whole : P (first_lines k s) ↔ Q (first_lines m t)
+  whole : IsWhole P k s ↔ IsWhole Q m t
   key : HasKey (due k) (line_after k s) ↔ HasKey (need m) (line_after m t)
-  fed : CanGoOn P (suc k) (s ++ codes "\n") ↔ CanGoOn Q (suc m) (t ++ codes "\n")
+  fed : FeedMends P (suc k) s ↔ FeedMends Q (suc m) t
 
 carried : (P Q : List ℕ → Type 0) (due need : ℕ → List ℕ) (s t : List ℕ) (k m number : ℕ)
     → Carries P Q due need s t k m → FaultAfter P due s k number → FaultAfter Q need t m number
@@ -70,20 +71,24 @@ carried P Q due need s t k m number c h =
       );
     }
 
-both_go_on : (P Q : List ℕ → Type 0) → ((t : List ℕ) → P t → Q t) → (n : ℕ) (s : List ℕ) → CanGoOn P n s → CanGoOn Q n s
-both_go_on P Q f n s z = (z.0, f z.0 z.1, z.2)
+goes_too : (P Q : List ℕ → Type 0) → ((t : List ℕ) → P t → Q t)
+    → (n : ℕ) (s : List ℕ) → CanGoOn P n s → CanGoOn Q n s
+goes_too P Q f n s z = (z.0, f z.0 z.1, z.2)
 
 -- the same texts in other words
-pub retold : (P Q : List ℕ → Type 0) (due : ℕ → List ℕ) (s : List ℕ) (k number : ℕ) → ((t : List ℕ) → P t ↔ Q t)
-    → FaultAfter P due s k number → FaultAfter Q due s k number
+pub retold : (P Q : List ℕ → Type 0) (due : ℕ → List ℕ) (s : List ℕ) (k number : ℕ)
+    → ((t : List ℕ) → P t ↔ Q t) → FaultAfter P due s k number → FaultAfter Q due s k number
 retold P Q due s k number f h =
+    let on = goes_too P Q (λ t. (f t).0) in
+    let off = goes_too Q P (λ t. (f t).1) in
+    let fed = s ++ codes "\n" in
     carried P Q due due s s k k number
     (record {
-      begun = both_go_on P Q (λ t. (f t).0) k s;
-      faulty = both_go_on Q P (λ t. (f t).1) (suc k) s;
+      begun = on k s;
+      faulty = off (suc k) s;
       whole = f (first_lines k s);
       key = ((λ a. a), (λ a. a));
-      fed = (both_go_on P Q (λ t. (f t).0) (suc k) (s ++ codes "\n"), both_go_on Q P (λ t. (f t).1) (suc k) (s ++ codes "\n"));
+      fed = (on (suc k) fed, off (suc k) fed);
     }) h
 
 -- ---- a plan that is done
@@ -91,7 +96,8 @@ done_runs : {A : Type 0} (a : A) (n : ℕ) (t : List ℕ) → Runs (done a) n t 
 done_runs a n [] z = refl
 done_runs a n (c ∷ cs) z = absurd (apart_ok _ z.0 z.1)
 
-extra : {A : Type 0} (a : A) (due : ℕ → List ℕ) (n c : ℕ) (cs : List ℕ) → FaultAfter (Runs (done a) n) due (c ∷ cs) 0 22
+extra : {A : Type 0} (a : A) (due : ℕ → List ℕ) (n c : ℕ) (cs : List ℕ)
+    → FaultAfter (Runs (done a) n) due (c ∷ cs) 0 22
 extra a due n c cs =
     record {
       begun = ([], (a, refl), refl);
@@ -101,7 +107,38 @@ extra a due n c cs =
       bad_end = ((λ e. inl (a, refl)), (λ y. refl));
     }
 
--- ---- a line
+-- ---- what is told of a plan
+-- a plan of sound lines reads some text
+abbrev Sample : {A : Type 0} → Plan A → ℕ → Type 0
+Sample p n = (t : List ℕ) × Runs p n t
+
+sample_of : {A : Type 0} (p : Plan A) (due : ℕ → List ℕ) → Good p due → (n : ℕ) → Sample p n
+sample_of (done a) due g n = ([], (a, refl))
+sample_of (line key f next) due g n =
+    let l = g.0 in
+    let more = sample_of (next l.value) (λ k. due (suc k)) (g.1 l.value) (suc n) in
+    let read = line_back f key l.plain l.sample l.value more.0 l.free l.read in (
+      key ++ 61 ∷ (l.sample ++ 10 ∷ more.0),
+      (more.1.0, ap (λ y. and_then (placed n y) (λ x. run (next x.0) (suc n) x.1)) read ∙ more.1.1),
+    )
+
+-- the refusal is for the first faulty line, counted from line n
+abbrev pub Faulty : {A : Type 0} → Plan A → (ℕ → List ℕ) → ℕ → List ℕ → Refusal → Type 0
+Faulty p due n s r = (k : ℕ) × (r.line ≡ n + k) × FaultAfter (Runs p n) due s k (refusal_number (cause r.fault))
+
+same_err : {X E : Type 0} (d e : E) → ◌≡◌ {A = Result X E} (Err d) (Err e) → d ≡ e
+same_err d e q = cc
+
+-- a fault of the first line, or of bytes past the last
+at_once : {A : Type 0} (p : Plan A) (due : ℕ → List ℕ) (n : ℕ) (s : List ℕ) (e : LineFault) (r : Refusal)
+    → run p n s ≡ Err record { line = n; fault = e } → run p n s ≡ Err r
+    → FaultAfter (Runs p n) due s 0 (refusal_number (cause e)) → Faulty p due n s r
+at_once {A = A} p due n s e r a b h =
+    let q : Refusal = record { line = n; fault = e } in
+    let start : q.line ≡ n + 0 = omega arith in
+    subst (Faulty p due n s) (same_err {X = A} q r (sym a ∙ b)) (0, start, h)
+
+-- ---- a plan that begins with a line
 keyed_none : (key : List ℕ) → keyed key [] ≡ None
 keyed_none key =
     ⊎_elim
@@ -117,18 +154,23 @@ module _ {A X : Type 0} (key : List ℕ) (f : List ℕ → Result X NumberFault)
   abbrev first : List ℕ → Result X LineFault
   first s = valued f (keyed key (before 10 s))
 
-  goes_on : (s rest : List ℕ) (x : X) → first s ≡ Ok x → after 10 s ≡ Some rest → run plan n s ≡ run (next x) (suc n) rest
-  goes_on s rest x a b =
-      ap (λ r. and_then (placed n (ended r (after 10 s))) (λ x. run (next x.0) (suc n) x.1)) a
-      ∙ ap (λ o. and_then (placed n (ended (Ok x) o)) (λ x. run (next x.0) (suc n) x.1)) b
+  -- and of the whole text, once the first line gave this
+  abbrev onto : Result (X × List ℕ) LineFault → Result A Refusal
+  onto r = and_then (placed n r) (λ x. run (next x.0) (suc n) x.1)
+
+  alike : (s t : List ℕ) → before 10 t ≡ before 10 s → first t ≡ first s
+  alike s t q = ap (λ l. valued f (keyed key l)) q
+
+  goes_on : (s rest : List ℕ) (x : X) → first s ≡ Ok x → after 10 s ≡ Some rest
+      → run plan n s ≡ run (next x) (suc n) rest
+  goes_on s rest x a b = ap (λ r. onto (ended r (after 10 s))) a ∙ ap (λ o. onto (ended (Ok x) o)) b
 
   stops : (s : List ℕ) (e : LineFault) → first s ≡ Err e → run plan n s ≡ Err record { line = n; fault = e }
-  stops s e a = ap (λ r. and_then (placed n (ended r (after 10 s))) (λ x. run (next x.0) (suc n) x.1)) a
+  stops s e a = ap (λ r. onto (ended r (after 10 s))) a
 
-  unfed : (s : List ℕ) (x : X) → first s ≡ Ok x → after 10 s ≡ None → run plan n s ≡ Err record { line = n; fault = Feed }
-  unfed s x a b =
-      ap (λ r. and_then (placed n (ended r (after 10 s))) (λ x. run (next x.0) (suc n) x.1)) a
-      ∙ ap (λ o. and_then (placed n (ended (Ok x) o)) (λ x. run (next x.0) (suc n) x.1)) b
+  unfed : (s : List ℕ) (x : X) → first s ≡ Ok x → after 10 s ≡ None
+      → run plan n s ≡ Err record { line = n; fault = Feed }
+  unfed s x a b = ap (λ r. onto (ended r (after 10 s))) a ∙ ap (λ o. onto (ended (Ok x) o)) b
 
   refuted : (s : List ℕ) (r : Refusal) → run plan n s ≡ Err r → Runs plan n s → ⊥
   refuted s r e z = apart_ok r z.0 (sym e ∙ z.1)
@@ -143,33 +185,37 @@ module _ {A X : Type 0} (key : List ℕ) (f : List ℕ → Result X NumberFault)
       out m z =
           let t = z.0 in
           let o = texts.same_rest m s t z.2 rest fed in
-          let same : first t ≡ Ok x = ap (λ l. valued f (keyed key l)) (texts.same_front m s t z.2) ∙ read in
+          let same = alike s t (texts.same_front m s t z.2) ∙ read in
           (o.0, (z.1.0, sym (goes_on t o.0 x same o.1) ∙ z.1.1), o.2)
 
       back : (m : ℕ) → CanGoOn (Runs (next x) (suc n)) m rest → CanGoOn (Runs plan n) (suc m) s
       back m z =
-          let t = before 10 s ++ 10 ∷ z.0 in
-          let front = texts.line_front s z.0 in
-          let behind = texts.line_back s z.0 in
-          let same : first t ≡ Ok x = ap (λ l. valued f (keyed key l)) front ∙ read in (
+          let l = before 10 s in
+          let t = l ++ 10 ∷ z.0 in
+          let front = texts.joined_front s z.0 in
+          let behind = texts.joined_back s z.0 in
+          let lines : first_lines (suc m) t ≡ l ++ 10 ∷ first_lines m z.0 =
+          texts.first_of m t z.0 behind ∙ ap (λ l. l ++ 10 ∷ first_lines m z.0) front in
+          let same : first_lines (suc m) s ≡ l ++ 10 ∷ first_lines m rest = texts.first_of m s rest fed in (
             t,
-            (z.1.0, goes_on t z.0 x same behind ∙ z.1.1),
-            texts.first_of m t z.0 behind ∙ ap (λ l. l ++ 10 ∷ first_lines m z.0) front ∙ ap (λ l. before 10 s ++ 10 ∷ l) z.2 ∙ sym (texts.first_of m s rest fed),
+            (z.1.0, goes_on t z.0 x (alike s t front ∙ read) behind ∙ z.1.1),
+            lines ∙ ap (λ u. l ++ 10 ∷ u) z.2 ∙ sym same,
           )
 
       whole : (m : ℕ) → run plan n (first_lines (suc m) s) ≡ run (next x) (suc n) (first_lines m rest)
       whole m =
           goes_on (first_lines (suc m) s) (first_lines m rest) x
-          (ap (λ l. valued f (keyed key l)) (texts.first_front m s) ∙ read)
+          (alike s (first_lines (suc m) s) (texts.first_front m s) ∙ read)
           (texts.first_back m s ∙ ap (option_map (first_lines m)) fed)
 
     onward : (due : ℕ → List ℕ) (s rest : List ℕ) (k number : ℕ) → first s ≡ Ok x → after 10 s ≡ Some rest
-        → FaultAfter (Runs (next x) (suc n)) (λ k. due (suc k)) rest k number → FaultAfter (Runs plan n) due s (suc k) number
+        → FaultAfter (Runs (next x) (suc n)) (λ k. due (suc k)) rest k number
+        → FaultAfter (Runs plan n) due s (suc k) number
     onward due s rest k number read fed h =
         let feed = codes "\n" in
-        let read' : first (s ++ feed) ≡ Ok x = ap (λ l. valued f (keyed key l)) (texts.longer_front s rest feed fed) ∙ read in
+        let read' = alike s (s ++ feed) (texts.longer_front s rest feed fed) ∙ read in
         let fed' = texts.longer_back s rest feed fed in
-        let same : run plan n (first_lines (suc k) s) ≡ run (next x) (suc n) (first_lines k rest) = whole s rest read fed k in
+        let same = whole s rest read fed k in
         let at : line_after (suc k) s ≡ line_after k rest = ap (λ o. option_map_or (line_after k) o []) fed in
         carried (Runs (next x) (suc n)) (Runs plan n) (λ k. due (suc k)) due rest s k (suc k) number
         (record {
@@ -181,7 +227,7 @@ module _ {A X : Type 0} (key : List ℕ) (f : List ℕ → Result X NumberFault)
         }) h
 
   -- ---- the first line is not read
-  module _ (due : ℕ → List ℕ) (sound : Sound (due 0) key f) (sample : (t : List ℕ) × Runs plan n t) (s : List ℕ) where
+  module _ (due : ℕ → List ℕ) (sound : Sound (due 0) key f) (sample : Sample plan n) (s : List ℕ) where
     begun : CanGoOn (Runs plan n) 0 s
     begun = (sample.0, sample.1, refl)
 
@@ -189,20 +235,22 @@ module _ {A X : Type 0} (key : List ℕ) (f : List ℕ → Result X NumberFault)
     no_key e z =
         let v = z.0 in
         let named : before 10 s ≡ key ++ 61 ∷ v = z.1 ∙ ap (λ d. d ++ 61 ∷ v) (sym sound.own) in
-        texts.none_some v (sym e ∙ ap (keyed key) named ∙ sound.plain.name v)
+        apart_some v (sym e ∙ ap (keyed key) named ∙ sound.plain.name v)
 
     has_key : (v : List ℕ) → keyed key (before 10 s) ≡ Some v → HasKey (due 0) (line_after 0 s)
     has_key v e = (v, joined_key key (before 10 s) v e ∙ ap (λ d. d ++ 61 ∷ v) sound.own)
 
-    -- no text with this line is read
-    unread : (e : LineFault) → first s ≡ Err e → (t : List ℕ) → before 10 t ≡ before 10 s → Runs plan n t → ⊥
-    unread e a t q = refuted t _ (stops t e (ap (λ l. valued f (keyed key l)) q ∙ a))
+    -- no text with this line is read, with its line feed or without
+    module _ (e : LineFault) (a : first s ≡ Err e) where
+      unread : (t : List ℕ) → before 10 t ≡ before 10 s → Runs plan n t → ⊥
+      unread t q = refuted t _ (stops t e (alike s t q ∙ a))
 
-    never : (e : LineFault) → first s ≡ Err e → CanGoOn (Runs plan n) 1 s → ⊥
-    never e a z = unread e a z.0 (texts.same_front 0 s z.0 z.2) z.1
+      never : ¬ CanGoOn (Runs plan n) 1 s
+      never z = unread z.0 (texts.same_front 0 s z.0 z.2) z.1
 
-    never_fed : (e : LineFault) → first s ≡ Err e → CanGoOn (Runs plan n) 1 (s ++ codes "\n") → ⊥
-    never_fed e a z = unread e a z.0 (texts.same_front 0 (s ++ codes "\n") z.0 z.2 ∙ texts.closed_front s) z.1
+      never_fed : ¬ FeedMends (Runs plan n) 1 s
+      never_fed z =
+          unread z.0 (texts.same_front 0 (s ++ codes "\n") z.0 z.2 ∙ texts.closed_front s) z.1
 
     wrong_key : keyed key (before 10 s) ≡ None → FaultAfter (Runs plan n) due s 0 20
     wrong_key e =
@@ -215,94 +263,76 @@ module _ {A X : Type 0} (key : List ℕ) (f : List ℕ → Result X NumberFault)
           bad_end = ((λ q. absurd (omega arith)), (λ y. absurd (⊎_elim no_bytes (never_fed Key a) y)));
         }
 
-    bad_number : (v : List ℕ) (d : NumberFault) → keyed key (before 10 s) ≡ Some v → f v ≡ Err d → FaultAfter (Runs plan n) due s 0 21
-    bad_number v d e b =
-        let a : first s ≡ Err (Number d) = ap (valued f) e ∙ ap of_number b in
-        record {
-          begun = begun;
-          faulty = never (Number d) a;
-          wrong_key = ((λ q. absurd (omega arith)), (λ y. absurd (y.1 (has_key v e))));
-          bad_number = ((λ q. (no_bytes, has_key v e, never_fed (Number d) a)), (λ y. refl));
-          bad_end = ((λ q. absurd (omega arith)), (λ y. absurd (⊎_elim no_bytes (never_fed (Number d) a) y)));
-        }
+    module _ (v : List ℕ) (e : keyed key (before 10 s) ≡ Some v) where
+      valued_as : (r : Result X NumberFault) → f v ≡ r → first s ≡ of_number r
+      valued_as r b = ap (valued f) e ∙ ap of_number b
 
-    bad_end : (v : List ℕ) (x : X) → keyed key (before 10 s) ≡ Some v → f v ≡ Ok x → after 10 s ≡ None
-        → ((t : List ℕ) × Runs (next x) (suc n) t) → FaultAfter (Runs plan n) due s 0 22
-    bad_end v x e b fed more =
-        let a : first s ≡ Ok x = ap (valued f) e ∙ ap of_number b in
-        let feed = codes "\n" in
-        let whole : CanGoOn (Runs plan n) 1 (s ++ feed) =
-        back x (s ++ feed) [] (ap (λ l. valued f (keyed key l)) (texts.closed_front s) ∙ a) (texts.closed_back s fed) 0 (more.0, more.1, refl) in
-        record {
-          begun = begun;
-          faulty = λ z. refuted z.0 _ (unfed z.0 x (ap (λ l. valued f (keyed key l)) (texts.same_front 0 s z.0 z.2) ∙ a) (texts.same_end 0 s z.0 z.2 fed)) z.1;
-          wrong_key = ((λ q. absurd (omega arith)), (λ y. absurd (y.1 (has_key v e))));
-          bad_number = ((λ q. absurd (omega arith)), (λ y. absurd (y.2 whole)));
-          bad_end = ((λ q. inr whole), (λ y. refl));
-        }
+      bad_number : (d : NumberFault) → f v ≡ Err d → FaultAfter (Runs plan n) due s 0 21
+      bad_number d b =
+          let a = valued_as (Err d) b in
+          record {
+            begun = begun;
+            faulty = never (Number d) a;
+            wrong_key = ((λ q. absurd (omega arith)), (λ y. absurd (y.1 (has_key v e))));
+            bad_number = ((λ q. (no_bytes, has_key v e, never_fed (Number d) a)), (λ y. refl));
+            bad_end = ((λ q. absurd (omega arith)), (λ y. absurd (⊎_elim no_bytes (never_fed (Number d) a) y)));
+          }
 
--- ---- every plan
--- a sound plan reads some text
-sample_of : {A : Type 0} (p : Plan A) (due : ℕ → List ℕ) → Good p due → (n : ℕ) → (t : List ℕ) × Runs p n t
-sample_of (done a) due g n = ([], (a, refl))
-sample_of (line key f next) due g n =
-    let l = g.0 in
-    let more = sample_of (next l.value) (λ k. due (suc k)) (g.1 l.value) (suc n) in (
-      key ++ 61 ∷ (l.sample ++ 10 ∷ more.0),
-      (
-        more.1.0,
-        ap (λ y. and_then (placed n y) (λ x. run (next x.0) (suc n) x.1)) (line_back f key l.plain l.sample l.value more.0 l.free l.read) ∙ more.1.1,
-      ),
-    )
+      bad_end : (x : X) → f v ≡ Ok x → after 10 s ≡ None → Sample (next x) (suc n)
+          → FaultAfter (Runs plan n) due s 0 22
+      bad_end x b fed more =
+          let a = valued_as (Ok x) b in
+          let t = s ++ codes "\n" in
+          let mended : CanGoOn (Runs plan n) 1 t =
+          back x t [] (alike s t (texts.closed_front s) ∙ a) (texts.closed_back s fed) 0 (more.0, more.1, refl) in
+          record {
+            begun = begun;
+            faulty = λ z.
+                let u = z.0 in
+                let read = alike s u (texts.same_front 0 s u z.2) ∙ a in
+                refuted u _ (unfed u x read (texts.same_end 0 s u z.2 fed)) z.1;
+            wrong_key = ((λ q. absurd (omega arith)), (λ y. absurd (y.1 (has_key v e))));
+            bad_number = ((λ q. absurd (omega arith)), (λ y. absurd (y.2 mended)));
+            bad_end = ((λ q. inr mended), (λ y. refl));
+          }
 
-abbrev pub Faulty : {A : Type 0} → Plan A → (ℕ → List ℕ) → ℕ → List ℕ → Refusal → Type 0
-Faulty p due n s r = (k : ℕ) × (r.line ≡ n + k) × FaultAfter (Runs p n) due s k (refusal_number (cause r.fault))
+  -- ---- by what the first line is, where the law holds of what follows it
+  module _ (due : ℕ → List ℕ) (g : Good plan due) (s : List ℕ) (r : Refusal)
+      (later : (x : X) (rest : List ℕ) → run (next x) (suc n) rest ≡ Err r
+      → Faulty (next x) (λ k. due (suc k)) (suc n) rest r)
+      (e : run plan n s ≡ Err r) where
+    sample : Sample plan n
+    sample = sample_of plan due g n
 
-same_err : {X E : Type 0} (d e : E) → ◌≡◌ {A = Result X E} (Err d) (Err e) → d ≡ e
-same_err d e q = cc
+    module _ (v : List ℕ) (a : keyed key (before 10 s) ≡ Some v) where
+      by_feed : (x : X) → f v ≡ Ok x → (o : Option (List ℕ)) → after 10 s ≡ o → Faulty plan due n s r
+      by_feed x b None c =
+          at_once plan due n s Feed r (unfed s x (valued_as due g.0 sample s v a (Ok x) b) c) e
+          (bad_end due g.0 sample s v a x b c (sample_of (next x) (λ k. due (suc k)) (g.1 x) (suc n)))
+      by_feed x b (Some rest) c =
+          let read = valued_as due g.0 sample s v a (Ok x) b in
+          let h = later x rest (sym (goes_on s rest x read c) ∙ e) in
+          let at = h.1 in
+          (suc h.0, omega arith, onward x due s rest h.0 (refusal_number (cause r.fault)) read c h.2)
 
--- a fault of the first line, or of bytes past the last
-at_once : {A : Type 0} (p : Plan A) (due : ℕ → List ℕ) (n : ℕ) (s : List ℕ) (e : LineFault) (r : Refusal)
-    → run p n s ≡ Err record { line = n; fault = e } → run p n s ≡ Err r → FaultAfter (Runs p n) due s 0 (refusal_number (cause e)) → Faulty p due n s r
-at_once {A = A} p due n s e r a b h =
-    let q : Refusal = record { line = n; fault = e } in
-    let start : q.line ≡ n + 0 = omega arith in
-    subst (Faulty p due n s) (same_err {X = A} q r (sym a ∙ b)) (0, start, h)
+      by_number : (y : Result X NumberFault) → f v ≡ y → Faulty plan due n s r
+      by_number (Ok x) b = by_feed x b (after 10 s) refl
+      by_number (Err d) b =
+          at_once plan due n s (Number d) r (stops s (Number d) (valued_as due g.0 sample s v a (Err d) b)) e
+          (bad_number due g.0 sample s v a d b)
 
-module _ {A X : Type 0} (key : List ℕ) (f : List ℕ → Result X NumberFault) (next : X → Plan A) (due : ℕ → List ℕ) (n : ℕ) (s : List ℕ) (r : Refusal)
-    (g : Good (line key f next) due)
-    (later : (x : X) (rest : List ℕ) → run (next x) (suc n) rest ≡ Err r → Faulty (next x) (λ k. due (suc k)) (suc n) rest r)
-    (e : run (line key f next) n s ≡ Err r) where
-  abbrev whole_plan : Plan A
-  whole_plan = line key f next
+    by_key : (o : Option (List ℕ)) → keyed key (before 10 s) ≡ o → Faulty plan due n s r
+    by_key None a =
+        at_once plan due n s Key r (stops s Key (ap (valued f) a)) e (wrong_key due g.0 sample s a)
+    by_key (Some v) a = by_number v a (f v) refl
 
-  sample : (t : List ℕ) × Runs whole_plan n t
-  sample = sample_of whole_plan due g n
-
-  by_feed : (v : List ℕ) (x : X) → keyed key (before 10 s) ≡ Some v → f v ≡ Ok x → (o : Option (List ℕ)) → after 10 s ≡ o → Faulty whole_plan due n s r
-  by_feed v x a b None c =
-      let read : first key f next n s ≡ Ok x = ap (valued f) a ∙ ap of_number b in
-      at_once whole_plan due n s Feed r (unfed key f next n s x read c) e
-      (bad_end key f next n due g.0 sample s v x a b c (sample_of (next x) (λ k. due (suc k)) (g.1 x) (suc n)))
-  by_feed v x a b (Some rest) c =
-      let read : first key f next n s ≡ Ok x = ap (valued f) a ∙ ap of_number b in
-      let h = later x rest (sym (goes_on key f next n s rest x read c) ∙ e) in
-      let at = h.1 in
-      (suc h.0, omega arith, onward key f next n x due s rest h.0 (refusal_number (cause r.fault)) read c h.2)
-
-  by_number : (v : List ℕ) → keyed key (before 10 s) ≡ Some v → (y : Result X NumberFault) → f v ≡ y → Faulty whole_plan due n s r
-  by_number v a (Ok x) b = by_feed v x a b (after 10 s) refl
-  by_number v a (Err d) b =
-      at_once whole_plan due n s (Number d) r (stops key f next n s (Number d) (ap (valued f) a ∙ ap of_number b)) e
-      (bad_number key f next n due g.0 sample s v d a b)
-
-  by_key : (o : Option (List ℕ)) → keyed key (before 10 s) ≡ o → Faulty whole_plan due n s r
-  by_key None a =
-      at_once whole_plan due n s Key r (stops key f next n s Key (ap (valued f) a)) e (wrong_key key f next n due g.0 sample s a)
-  by_key (Some v) a = by_number v a (f v) refl
-
-pub first_faulty : {A : Type 0} (p : Plan A) (due : ℕ → List ℕ) → Good p due → (n : ℕ) (s : List ℕ) (r : Refusal) → run p n s ≡ Err r → Faulty p due n s r
+-- ---- every plan of sound lines tells the first faulty one
+pub first_faulty : {A : Type 0} (p : Plan A) (due : ℕ → List ℕ) → Good p due
+    → (n : ℕ) (s : List ℕ) (r : Refusal) → run p n s ≡ Err r → Faulty p due n s r
 first_faulty (done a) due g n [] r e = absurd (apart_ok r a (sym e))
-first_faulty (done a) due g n (c ∷ cs) r e = at_once (done a) due n (c ∷ cs) Extra r refl e (extra a due n c cs)
+first_faulty (done a) due g n (c ∷ cs) r e =
+    at_once (done a) due n (c ∷ cs) Extra r refl e (extra a due n c cs)
 first_faulty (line key f next) due g n s r e =
-    by_key key f next due n s r g (λ x rest q. first_faulty (next x) (λ k. due (suc k)) (g.1 x) (suc n) rest r q) e (keyed key (before 10 s)) refl
+    by_key key f next n due g s r
+    (λ x rest q. first_faulty (next x) (λ k. due (suc k)) (g.1 x) (suc n) rest r q)
+    e (keyed key (before 10 s)) refl

@@ -53,7 +53,8 @@ ReadsBack = (x : SubmissionFile) → HeadFits (head x) → PairsFit (pairs x) �
 
 -- a text whose pairs are a curve already is the written form of what it is read as
 abbrev pub OneText : Type 0
-OneText = (s : List ℕ) (x : SubmissionFile) (t : Told s x) → in_form t.sent ≡ true → s ≡ written_form x
+OneText = (s : List ℕ) (x : SubmissionFile) (t : Told s x) → in_form t.sent ≡ true
+    → s ≡ written_form x
 
 -- what is accepted is read back from its written form as the same
 abbrev pub Again : Type 0
@@ -61,9 +62,11 @@ Again = (s : List ℕ) (x : SubmissionFile) → read_of s ≡ Ok x → read_of (
 
 -- a written form that is read and written again is itself
 abbrev pub Settled : Type 0
-Settled = (s : List ℕ) (x y : SubmissionFile) → read_of s ≡ Ok x → read_of (written_form x) ≡ Ok y → written_form y ≡ written_form x
+Settled = (s : List ℕ) (x y : SubmissionFile) → read_of s ≡ Ok x → read_of (written_form x) ≡ Ok y
+    → written_form y ≡ written_form x
 
--- two accepted files have equal written forms exactly where the four leading figures and the curve agree
+-- two accepted files have equal written forms exactly where the four leading figures and the
+-- curve agree
 abbrev pub Alike : Type 0
 Alike = (s t : List ℕ) (x y : SubmissionFile) → read_of s ≡ Ok x → read_of t ≡ Ok y
     → (written_form x ≡ written_form y → Agree x y) × (Agree x y → written_form x ≡ written_form y)

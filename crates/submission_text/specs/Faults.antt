@@ -7,12 +7,13 @@ use Rattle.text.specs.Refusals.{refusal_number, cause}
 use Rattle.submission_text.specs.declared.file.SubmissionFile.{SubmissionFile}
 use Rattle.submission_text.specs.Claims.{Told}
 
--- the first n lines of a text: its bytes up to and with the n-th line feed, or all where it has fewer
+-- the first n lines: the bytes up to and with the n-th line feed, or all where there are fewer
 abbrev pub first_lines : ℕ → List ℕ → List ℕ
 first_lines zero s = []
-first_lines (suc n) s = before 10 s ++ option_map_or (λ rest. 10 ∷ first_lines n rest) (after 10 s) []
+first_lines (suc n) s =
+    before 10 s ++ option_map_or (λ rest. 10 ∷ first_lines n rest) (after 10 s) []
 
--- the bytes of the line after the first n, without its line feed; none where there is no such line
+-- the line after the first n, without its line feed; no bytes where there is no such line
 abbrev pub line_after : ℕ → List ℕ → List ℕ
 line_after zero s = before 10 s
 line_after (suc n) s = option_map_or (line_after n) (after 10 s) []
@@ -21,24 +22,37 @@ line_after (suc n) s = option_map_or (line_after n) (after 10 s) []
 abbrev pub HasKey : List ℕ → List ℕ → Type 0
 HasKey key line = (value : List ℕ) × (line ≡ key ++ (codes "=" ++ value))
 
+-- ---- texts of which some are accepted
 -- some accepted text has the same first n lines
 abbrev pub CanGoOn : (List ℕ → Type 0) → ℕ → List ℕ → Type 0
 CanGoOn Accepted n s = (t : List ℕ) × Accepted t × (first_lines n t ≡ first_lines n s)
 
--- Of texts of lines, of which some are accepted and the line after the first n has the key `due n`:
--- the line after the first `good` ones is the first faulty one, and the number says what is wrong with it.
-pub record FaultAfter (Accepted : List ℕ → Type 0) (due : ℕ → List ℕ) (s : List ℕ) (good number : ℕ) : Type 0 where
+-- the first n lines are an accepted text by themselves
+abbrev pub IsWhole : (List ℕ → Type 0) → ℕ → List ℕ → Type 0
+IsWhole Accepted n s = Accepted (first_lines n s)
+
+-- with a line feed put behind the text, its first n lines begin an accepted one
+abbrev pub FeedMends : (List ℕ → Type 0) → ℕ → List ℕ → Type 0
+FeedMends Accepted n s = CanGoOn Accepted n (s ++ codes "\n")
+
+-- the line after the first `good` ones is the first faulty one, and the number says what is wrong
+-- with it; `due n` is the key of the line after the first n
+pub record FaultAfter (Accepted : List ℕ → Type 0) (due : ℕ → List ℕ) (s : List ℕ)
+    (good number : ℕ) : Type 0 where
   -- the lines before it begin an accepted text
   pub begun : CanGoOn Accepted good s
-  -- with it they begin none
+  -- and with it they begin none
   pub faulty : ¬ CanGoOn Accepted (suc good) s
-  -- 20: a line was due, and it does not begin with the due key
-  pub wrong_key : (number ≡ 20) ↔ (¬ Accepted (first_lines good s) × ¬ HasKey (due good) (line_after good s))
-  -- 21: a line was due and has its key, and a line feed behind the text would not mend it
+  -- 20: a line was due, and this one has not the due key
+  pub wrong_key : (number ≡ 20)
+      ↔ (¬ IsWhole Accepted good s × ¬ HasKey (due good) (line_after good s))
+  -- 21: it has the due key, and not the line feed alone is wanting
   pub bad_number : (number ≡ 21)
-      ↔ (¬ Accepted (first_lines good s) × HasKey (due good) (line_after good s) × ¬ CanGoOn Accepted (suc good) (s ++ codes "\n"))
-  -- 22: no line was due, or it wants the line feed alone
-  pub bad_end : (number ≡ 22) ↔ (Accepted (first_lines good s) ⊎ CanGoOn Accepted (suc good) (s ++ codes "\n"))
+      ↔ (¬ IsWhole Accepted good s × HasKey (due good) (line_after good s)
+      × ¬ FeedMends Accepted (suc good) s)
+  -- 22: no line was due, or the line feed alone is wanting
+  pub bad_end : (number ≡ 22)
+      ↔ (IsWhole Accepted good s ⊎ FeedMends Accepted (suc good) s)
 
 -- ---- submissions
 -- the text is read as some file

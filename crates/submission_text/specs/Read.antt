@@ -28,7 +28,8 @@ rated room p (Some w) = priced p (natural_of 0 room w)
 
 -- `price:kW`, split at the first colon, with room for so many kW
 abbrev pub pair_of : ℕ → List ℕ → Result Pair NumberFault
-pair_of room v = and_then (signed_of (negsuc 99999) (pos 100000) (before 58 v)) (λ p. rated room p (after 58 v))
+pair_of room v =
+    and_then (signed_of (negsuc 99999) (pos 100000) (before 58 v)) (λ p. rated room p (after 58 v))
 
 -- a line `pair=price:kW`, and the bytes after it
 abbrev pub pair_line_of : ℕ → List ℕ → Result (Pair × List ℕ) LineFault
@@ -38,7 +39,8 @@ pair_line_of room = line_of (pair_of room) (codes "pair")
 abbrev pub pairs_from : ℕ → ℕ → ℕ → List Pair → List ℕ → Result (List Pair × List ℕ) Refusal
 pairs_from zero line room ps s = Ok (ps, s)
 pairs_from (suc n) line room ps s =
-    and_then (placed line (pair_line_of room s)) (λ x. pairs_from n (line + 1) (room - x.0.kw) (ps ++ (x.0 ∷ [])) x.1)
+    and_then (placed line (pair_line_of room s)) (λ x.
+    pairs_from n (line + 1) (room - x.0.kw) (ps ++ (x.0 ∷ [])) x.1)
 
 -- the pairs from line 6 on, of at most 1,000,000 kW in all
 abbrev pub pairs_of : ℕ → List ℕ → Result (List Pair × List ℕ) Refusal

@@ -23,7 +23,8 @@ abbrev pub pairs : SubmissionFile → List Pair
 pairs x = listed x.submission.curve
 
 unfoldable pub pair_text : Pair → List ℕ
-pair_text p = codes "pair=" ++ (signed_decimal p.price ++ (codes ":" ++ (decimal p.kw ++ codes "\n")))
+pair_text p =
+    codes "pair=" ++ (signed_decimal p.price ++ (codes ":" ++ (decimal p.kw ++ codes "\n")))
 
 abbrev pub pairs_text : List Pair → List ℕ
 pairs_text [] = []
@@ -46,7 +47,8 @@ written_form x = file_text (head x) (pairs x)
 
 -- a refusal in two lines
 abbrev pub refusal_text : Refusal → List ℕ
-refusal_text r = line_text (codes "refused") (refusal_number (cause r.fault)) ++ line_text (codes "line") r.line
+refusal_text r =
+    line_text (codes "refused") (refusal_number (cause r.fault)) ++ line_text (codes "line") r.line
 
 abbrev pub answer_to : Result SubmissionFile Refusal → List ℕ
 answer_to (Ok x) = written_form x

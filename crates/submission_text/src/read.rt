@@ -74,7 +74,8 @@ impl<'a> Lines<'a> {
 fn read_head(lines: &mut Lines) -> Result<Head, Refusal>
     requires { lines.old.number ≡ 1 }
     ensures next { OnOk result (lines.new.number ≡ 5) }
-    ensures value { mapped_both (λ h. (h, lines.new.rest.now)) (λ e. e) result ≡ head_of lines.old.rest.now }
+    ensures value { mapped_both (λ h. (h, lines.new.rest.now)) (λ e. e) result
+        ≡ head_of lines.old.rest.now }
 {
     let facility = lines.natural(b"facility", 1, 12)?;
     let interval = lines.natural(b"interval", 1, 48)?;
@@ -122,8 +123,8 @@ fn with_curve(head: Head, curve: Curve) -> SubmissionFile
     }
 }
 
-// Kept: apart from `read`, which draws its other clauses once from the value told here, and not at each
-// of five exits.
+// Kept: apart from `read`, which draws its other clauses once from the value told here, and not at
+// each of five exits.
 fn read_lines(text: &[u8]) -> Result<SubmissionFile, Refusal>
     ensures { result ≡ read_of text.now }
 {
@@ -143,8 +144,8 @@ fn read_lines(text: &[u8]) -> Result<SubmissionFile, Refusal>
     Ok(with_curve(head, curve))
 }
 
-// The whole file: the leading figures, the number of pairs, that many pairs, and nothing after them.
-// Refused, it tells the first faulty line.
+// The whole file: the leading figures, the number of pairs, that many pairs, and nothing after
+// them. Where it is refused, the first faulty line is told.
 pub fn read(text: &[u8]) -> Result<SubmissionFile, Refusal>
     ensures value { result ≡ read_of text.now }
     ensures lines { ReadsLines text.now result }

@@ -1,5 +1,5 @@
 -- A line is read from its written form, and from no other bytes.
-use Rattle.std.proofs.Common.{◌≡◌, ℕ, suc, ◌+◌, ◌^◌, ◌<◌, ◌≤◌, true, false, eqb, List, [], ◌∷◌, ◌++◌, length, ℤ, pos, negsuc, IsErrAnd, Some, None, Ok, Err, decimal, Option, Result, sym, refl, ap, ◌∙◌, ⊎_elim, arith}
+use Rattle.std.proofs.Common.{◌≡◌, ℕ, suc, ◌+◌, ◌^◌, ◌<◌, ◌≤◌, true, false, eqb, List, [], ◌∷◌, ◌++◌, length, ℤ, pos, negsuc, IsErrAnd, Some, None, Ok, Err, decimal, Option, Result, sym, refl, ap, ◌∙◌, subst, ⊎_elim, arith}
 use lib.Signed.{mag}
 use Rattle.std.proofs.lemmas.Fmt.{digits_decimal, length-decimal-le}
 use Rattle.std.proofs.lemmas.Slice.Eq.{bytes_eq-Decides}
@@ -20,10 +20,10 @@ use Rattle.text.proofs.Canonical.{are_digits, own, natural_back, natural_written
 pub apart_ok : {X E : Type 0} (e : E) (x : X) → ◌≡◌ {A = Result X E} (Err e) (Ok x) → ⊥
 apart_ok e x q = let k : ◌≡◌ {A = ℕ} 0 1 = cc in omega arith
 
-apart_some : {X : Type 0} (x : X) → ◌≡◌ {A = Option X} None (Some x) → ⊥
+pub apart_some : {X : Type 0} (x : X) → ◌≡◌ {A = Option X} None (Some x) → ⊥
 apart_some x q = let k : ◌≡◌ {A = ℕ} 0 1 = cc in omega arith
 
-same_some : {X : Type 0} (x y : X) → ◌≡◌ {A = Option X} (Some x) (Some y) → x ≡ y
+pub same_some : {X : Type 0} (x y : X) → ◌≡◌ {A = Option X} (Some x) (Some y) → x ≡ y
 same_some x y q = cc
 
 pub same_ok : {X E : Type 0} (x y : X) → ◌≡◌ {A = Result X E} (Ok x) (Ok y) → x ≡ y
@@ -53,6 +53,25 @@ after_at b xs t f e = after_past b xs (b ∷ t) f ∙ cond-true (eqb b b) (Some 
 pub free_append : (b : ℕ) (xs ys : List ℕ) → Free b xs → Free b ys → Free b (xs ++ ys)
 free_append b [] ys f g = g
 free_append b (x ∷ xs) ys f g = (f.0, free_append b xs ys f.1 g)
+
+-- what stands before the first b lacks it
+pub before_free : (b : ℕ) (s : List ℕ) → Free b (before b s)
+before_free b [] = tt
+before_free b (c ∷ cs) =
+    ⊎_elim
+    (λ t. subst (Free b) (sym (cond-true (eqb c b) [] (c ∷ before b cs) t)) tt)
+    (λ f. subst (Free b) (sym (cond-false (eqb c b) [] (c ∷ before b cs) f)) (f, before_free b cs))
+    (cases_Bool (eqb c b))
+
+-- with no b, all of it stands before
+pub uncut : (b : ℕ) (s : List ℕ) → after b s ≡ None → s ≡ before b s
+uncut b [] e = refl
+uncut b (c ∷ cs) e =
+    ⊎_elim
+    (λ t. absurd (apart_some cs (sym e ∙ cond-true (eqb c b) (Some cs) (after b cs) t)))
+    (λ f. ap (λ l. c ∷ l) (uncut b cs (sym (cond-false (eqb c b) (Some cs) (after b cs) f) ∙ e))
+    ∙ sym (cond-false (eqb c b) [] (c ∷ before b cs) f))
+    (cases_Bool (eqb c b))
 
 digits_free : (b : ℕ) → ((c : ℕ) → is_digit c ≡ true → eqb c b ≡ false) → (cs : List ℕ) → are_digits cs ≡ true → Free b cs
 digits_free b h [] d = tt

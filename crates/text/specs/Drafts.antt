@@ -6,10 +6,14 @@ use Rattle.text.specs.declared.refusal.TextTooShort.{TextTooShort}
 abbrev pub kept : List ℕ → List ℕ
 kept text = take 512 text
 
--- memory that a text was placed in: the text and what lay past it, if it has the length, else as it was
+-- memory that a text was placed in: the text and what lay past it, if it has the length, else as
+-- it was
 abbrev pub placed_text : List ℕ → List ℕ → List ℕ
-placed_text text out = if nat_le (length text) (length out) then text ++ drop (length text) out else out
+placed_text text out =
+    if nat_le (length text) (length out) then text ++ drop (length text) out else out
 
 -- the length of the text, or that it is needed
 abbrev pub placed_length : List ℕ → List ℕ → Result ℕ TextTooShort
-placed_length text out = if nat_le (length text) (length out) then Ok (length text) else Err record { needed = length text }
+placed_length text out =
+    if nat_le (length text) (length out) then Ok (length text)
+    else Err record { needed = length text }

@@ -27,22 +27,26 @@ of_number (Ok x) = Ok x
 of_number (Err e) = Err (Number e)
 
 -- what a reader makes of the value after the key
-abbrev pub valued : {X : Type 0} → (List ℕ → Result X NumberFault) → Option (List ℕ) → Result X LineFault
+abbrev pub valued : {X : Type 0} → (List ℕ → Result X NumberFault) → Option (List ℕ)
+    → Result X LineFault
 valued f None = Err Key
 valued f (Some v) = of_number (f v)
 
 -- what the line gave, and the bytes after its line feed
-abbrev pub ended : {X : Type 0} → Result X LineFault → Option (List ℕ) → Result (X × List ℕ) LineFault
+abbrev pub ended : {X : Type 0} → Result X LineFault → Option (List ℕ)
+    → Result (X × List ℕ) LineFault
 ended (Err e) rest = Err e
 ended (Ok x) None = Err Feed
 ended (Ok x) (Some rest) = Ok (x, rest)
 
 -- a line with that key whose value is read by f, and the bytes after it
-abbrev pub line_of : {X : Type 0} → (List ℕ → Result X NumberFault) → List ℕ → List ℕ → Result (X × List ℕ) LineFault
+abbrev pub line_of : {X : Type 0} → (List ℕ → Result X NumberFault) → List ℕ → List ℕ
+    → Result (X × List ℕ) LineFault
 line_of f key s = ended (valued f (keyed key (before 10 s))) (after 10 s)
 
 -- each answer to a value is that of the reader
-abbrev pub Reads : {X : Type 0} → (List ℕ → Result X NumberFault → Type 0) → (List ℕ → Result X NumberFault) → Type 0
+abbrev pub Reads : {X : Type 0} → (List ℕ → Result X NumberFault → Type 0)
+    → (List ℕ → Result X NumberFault) → Type 0
 Reads answers f = (v : _) (r : _) → answers v r → r ≡ f v
 
 -- a line `key=number`

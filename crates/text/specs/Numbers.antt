@@ -1,4 +1,5 @@
--- How a number stands in a text: digits with no leading zero, zero as `0`, a minus only before a number above zero.
+-- How a number stands in a text: digits with no leading zero, zero as `0`, a minus only before a
+-- number above zero.
 use Rattle.std.specs.Prelude.{◌≡◌, ℕ, ◌+◌, ◌-◌, ◌*◌, ◌^◌, ◌≤◌, min, Bool, if◌then◌else◌, ◌&&◌, List, [], ◌∷◌, ℤ, pos, negsuc, neg_ℤ, ◌≤ℤ◌, Some, None, Ok, Err, decimal, Option, Result, ◌==◌, int_le, nat_le}
 use Rattle.std.specs.Fmt.{signed_decimal}
 use Rattle.std.specs.Option.{option_map}
@@ -33,7 +34,8 @@ minus n = neg_ℤ (pos n)
 -- a minus and a number above zero, or a number without a sign
 abbrev pub with_sign : List ℕ → Option ℤ
 with_sign [] = None
-with_sign (c ∷ cs) = if c == 45 then option_map minus (positive cs) else option_map pos (plain (c ∷ cs))
+with_sign (c ∷ cs) =
+    if c == 45 then option_map minus (positive cs) else option_map pos (plain (c ∷ cs))
 
 -- a number, or 2 ^ 64 of its side where it lies farther from zero
 abbrev pub clamped : ℤ → ℤ
@@ -58,8 +60,10 @@ signed_of low high s = in_signed_span low high (with_sign s)
 -- r is n exactly where the bytes are how n is written, and n lies in the span
 abbrev pub ReadsNatural : ℕ → ℕ → List ℕ → Result ℕ NumberFault → Type 0
 ReadsNatural low high s r =
-    (n : ℕ) → (r ≡ Ok n → (s ≡ decimal n) × (low ≤ n) × (n ≤ high)) × (s ≡ decimal n → low ≤ n → n ≤ high → r ≡ Ok n)
+    (n : ℕ) → (r ≡ Ok n → (s ≡ decimal n) × (low ≤ n) × (n ≤ high))
+    × (s ≡ decimal n → low ≤ n → n ≤ high → r ≡ Ok n)
 
 abbrev pub ReadsSigned : ℤ → ℤ → List ℕ → Result ℤ NumberFault → Type 0
 ReadsSigned low high s r =
-    (z : ℤ) → (r ≡ Ok z → (s ≡ signed_decimal z) × (low ≤ℤ z) × (z ≤ℤ high)) × (s ≡ signed_decimal z → low ≤ℤ z → z ≤ℤ high → r ≡ Ok z)
+    (z : ℤ) → (r ≡ Ok z → (s ≡ signed_decimal z) × (low ≤ℤ z) × (z ≤ℤ high))
+    × (s ≡ signed_decimal z → low ≤ℤ z → z ≤ℤ high → r ≡ Ok z)
