@@ -7,7 +7,7 @@ use Rattle.ledger.specs.Sums.{ledger_sum}
 use Rattle.ledgers.specs.declared.limit.CreditLimit.{CreditLimit}
 use Rattle.ledgers.specs.declared.table.AccountTable.{AccountTable}
 use Rattle.ledgers.specs.Limits.{limited}
-use Rattle.ledgers.specs.Tables.{table_view}
+use Rattle.ledgers.specs.Tables.{table_view, with_posts}
 use Rattle.journal.specs.declared.journal.Journal.{Journal}
 use Rattle.journal.specs.declared.line.Line.{Line}
 use Rattle.journal.specs.Extending.{lines_of, Extended, front_stands}
@@ -20,7 +20,7 @@ use Rattle.day_file.specs.declared.plan.Asked.{Asked}
 use Rattle.day_file.specs.declared.plan.Plan.{Plan}
 use Rattle.day_file.specs.Plans.{told}
 use Rattle.day_file.specs.Reports.{balances_text, answers_text, lines_from}
-use Rattle.day_file.specs.Settles.{Tells, Prints, PrintsOver, table_seen, unlisted, journal_seen, line_by_line}
+use Rattle.day_file.specs.Settles.{Tells, Prints, PrintsOver, table_seen, balance_by_balance, journal_seen, line_by_line}
 
 pub if_ok : {X E : Type 0} {P Q : X → Type 0} (r : Result X E) → IfOk r P → ((x : X) → P x → Q x) → IfOk r Q
 if_ok (Ok x) p f = f x p
@@ -75,21 +75,21 @@ abbrev table_sees : Table → View
 table_sees x = limited x.limits (table_view x.below.balances)
 
 abbrev table_takes : Table → List Post → Table → Type 0
-table_takes x ps y = Unit {0} × (y.limits ≡ x.limits)
+table_takes x ps y = (y.below.balances ≡ with_posts x.below.balances ps) × (y.limits ≡ x.limits)
 
 pub settles_table : (plan : Plan) (x z : Table) (text : List ℕ) → plan.terms.journal ≡ None → x.limits ≡ plan.terms.limits → x.below.balances ≡ replicate 12 (pos 0)
     → Tells table_sees table_takes plan.terms.sheets plan.calls.items plan.asked.items x z text → PrintsOver plan.terms.journal (told plan) text
 settles_table plan x z text none limits zero t =
     let all = plan.terms.limits in
     let balances : Table → List ℤ = λ s. s.below.balances in
-    let read = tells_read table_sees table_takes (table_seen all) unlisted balances (λ s. s.limits ≡ all) (λ s k. ap (λ ls. limited ls (table_view s.below.balances)) k) (λ s ps y k h. (h.1 ∙ k, tt))
+    let read = tells_read table_sees table_takes (table_seen all) balance_by_balance balances (λ s. s.limits ≡ all) (λ s k. ap (λ ls. limited ls (table_view s.below.balances)) k) (λ s ps y k h. (h.1 ∙ k, h.0))
     plan.terms.sheets plan.calls.items plan.asked.items x z text limits t
     in subst (λ j. PrintsOver j (told plan) text) (sym none) (record {
       calls = plan.calls.items;
       said = refl;
       last = balances z;
       first = text;
-      tells = subst (λ (zs : List ℤ). Tells (table_seen all) unlisted plan.terms.sheets plan.calls.items plan.asked.items zs (balances z) text) zero read.1;
+      tells = subst (λ (zs : List ℤ). Tells (table_seen all) balance_by_balance plan.terms.sheets plan.calls.items plan.asked.items zs (balances z) text) zero read.1;
       printed = sym (append-nil text);
     })
 

@@ -1,7 +1,7 @@
 -- A day file settled: what is printed of it, for every string of bytes.
 use Rattle.std.specs.Prelude.{◌≡◌, ℕ, min, if◌then◌else◌, List, [], ◌++◌, map, replicate, ℤ, pos, Some, None, Option}
 use Rattle.ledgers.specs.Limits.{limited}
-use Rattle.ledgers.specs.Tables.{table_view}
+use Rattle.ledgers.specs.Tables.{table_view, with_posts}
 use Rattle.journal.specs.declared.line.Line.{Line}
 use Rattle.journal.specs.Extending.{lines_of}
 use Rattle.journal.specs.Lines.{lines_view}
@@ -35,8 +35,9 @@ pub record Prints {L : Type 0} (view : Seen L) (took : Took L) (x : L) (behind :
 abbrev pub table_seen : List ℤ → Seen (List ℤ)
 table_seen limits zs = limited limits (table_view zs)
 
-abbrev pub unlisted : {X : Type 0} → Took X
-unlisted x ps y = Unit {0}
+-- a post adds to its account's balance, and to no other
+abbrev pub balance_by_balance : Took (List ℤ)
+balance_by_balance zs ps ys = ys ≡ with_posts zs ps
 
 -- a journal with memory for n lines, of which 4,096 at most are used, under credit limits, by its lines: a post is a line behind the last
 abbrev pub journal_seen : List ℤ → ℕ → Seen (List Line)
@@ -47,7 +48,7 @@ line_by_line ls ps ms = ms ≡ ls ++ lines_of ps
 
 -- over the account table from zero, or over a journal without a line, whose lines are printed last where they are asked for
 abbrev pub PrintsOver : Option ℕ → Planned → List ℕ → Type 0
-PrintsOver None p text = Prints (table_seen p.terms.limits) unlisted (replicate 12 (pos 0)) (λ zs. []) p text
+PrintsOver None p text = Prints (table_seen p.terms.limits) balance_by_balance (replicate 12 (pos 0)) (λ zs. []) p text
 PrintsOver (Some n) p text = Prints (journal_seen p.terms.limits n) line_by_line [] (λ ls. if p.terms.print then lines_from 1 ls else []) p text
 
 -- what is printed of the text of a day file

@@ -14,6 +14,7 @@ small_view zs n = record {
   highest = λ _. most;
 }
 
+-- it keeps the spans of a ledger; a law of an impl can cite no proof of its own crate
 pub small_sound : (zs : List ℤ) (n : ℕ) → AllInSpan zs → n ≤ 65535 → Sound (small_view zs n)
 small_sound zs n h few = record {
   some = lit≤ tt;

@@ -20,6 +20,7 @@ pub record Extended (before : List Line) (n : ℕ) (ps : List Post) (after : Lis
   pub lines : after ≡ (take n before ++ lines_of ps) ++ drop m before
   pub size : length after ≡ length before
 
+-- ---- no post, and posts after posts: laws of the journal, which can cite no proof of its own crate
 pub extended_none : (ls : List Line) (n : ℕ) → Extended ls n [] ls n
 extended_none ls n = record {
   used = sym (add-zero n);
