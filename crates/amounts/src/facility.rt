@@ -52,7 +52,9 @@ impl Standing {
 fn sum_over<F: Fn(Standing) -> u64>(sheet: &Sheet, account: Account, count: F) -> u64
     requires callable { F.IsAlwaysCallable count }
     requires few { (standing : Standing) (n : ℕ) → F.post count standing n → n ≤ 93750000000000000 }
-    ensures { (e : Facility → Figures → ℕ) (most : ℕ) → Counts (F.post count) (λ standing. e standing.facility standing.figures) most → SumOver e most account.number sheet.now result }
+    ensures { (e : Facility → Figures → ℕ) (most : ℕ) →
+        Counts (F.post count) (λ standing. e standing.facility standing.figures) most →
+        SumOver e most account.number sheet.now result }
 {
     let mut sum = 0;
     // Kept: a `Standing` is made by what the sheet states of the place, and the sum fits by the number of facilities; a chain
@@ -71,7 +73,8 @@ fn sum_over<F: Fn(Standing) -> u64>(sheet: &Sheet, account: Account, count: F) -
 
 // Reading × loss factor, over the account's facilities.
 pub fn metered(sheet: &Sheet, account: Account) -> u64
-    ensures value { result ≡ sum_of metered account.number (facilities_in sheet.now) (figures_in sheet.now) }
+    ensures value { result ≡ sum_of metered account.number (facilities_in sheet.now)
+        (figures_in sheet.now) }
     ensures bound { result ≤ 4500000000000 }
 {
     sum_over(sheet, account, |standing| standing.metered())
@@ -79,10 +82,8 @@ pub fn metered(sheet: &Sheet, account: Account) -> u64
 
 // What the account's facilities are owed, unrounded.
 pub fn owed(at: AtPrice, account: Account) -> u64
-    ensures value {
-        result ≡ sum_of (own_part (price_cents at.entry.price)) account.number
-        (facilities_in at.entry.sheet.now) (figures_in at.entry.sheet.now)
-    }
+    ensures value { result ≡ sum_of (own_part (price_cents at.entry.price)) account.number
+        (facilities_in at.entry.sheet.now) (figures_in at.entry.sheet.now) }
     ensures bound { result ≤ 1125000000000000000 }
 {
     sum_over(at.sheet, account, |standing| standing.own_part(at.price))

@@ -51,7 +51,8 @@ fn tally_up(at: AtPrice) -> Tally
 
 // What is left to an account after its levy.
 fn after_levy(amounts: Amounts, levy: u64) -> i64
-    requires { (unsigned_abs amounts.energy ≤ 1250000000) × ((amounts.compensation ≤ 1875000000) × (levy ≤ 20625000000)) }
+    requires { (unsigned_abs amounts.energy ≤ 1250000000)
+        × ((amounts.compensation ≤ 1875000000) × (levy ≤ 20625000000)) }
     ensures { result ≡ amounts.energy +ℤ pos amounts.compensation -ℤ pos levy }
 {
     amounts.energy + amounts.compensation as i64 - levy as i64
@@ -60,7 +61,8 @@ fn after_levy(amounts: Amounts, levy: u64) -> i64
 // The net of account 0, the pool, or of one of the accounts 1 to 11.
 fn net_of(tally: &Tally, loads: &[u32; 11], account: usize) -> i64
     requires { account < 12 }
-    ensures { result ≡ net_from tally.now.each tally.now.pool tally.now.compensation loads.now account }
+    ensures { result ≡ net_from tally.now.each tally.now.pool tally.now.compensation loads.now
+        account }
 {
     if account == 0 {
         return tally.pool;
@@ -109,7 +111,8 @@ fn less(new: &[i64; 12], old: &[i64; 12]) -> [i64; 12]
             requires account { account < 12 }
             requires new { AllByRecursion near new.now }
             requires old { AllByRecursion near old.now }
-            ensures { result ≡ slice_index_or new.entry.now account (pos 0) -ℤ slice_index_or old.entry.now account (pos 0) }
+            ensures { result ≡ slice_index_or new.entry.now account (pos 0)
+                -ℤ slice_index_or old.entry.now account (pos 0) }
         { new[account] - old[account] },
     )
 }

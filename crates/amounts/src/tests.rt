@@ -72,13 +72,13 @@ fn worked(reading: u32) -> Option<Row> {
 
 fn nets_of(row: Row) -> Option<[i64; 12]> {
     let register = two_stations()?;
-    let sheet = Sheet::checked(&register, row)?;
+    let sheet = Sheet::checked(&register, &row)?;
     nets(&sheet)
 }
 
 fn changed_to(reading: u32) -> Option<[i64; 12]> {
     let register = two_stations()?;
-    let sheet = Sheet::checked(&register, worked(700_000)?)?;
+    let sheet = Sheet::checked(&register, &worked(700_000)?)?;
     let (_, changes) = correction(sheet, 0, reading)?;
     Some(changes)
 }

@@ -70,7 +70,8 @@ impl<'a> Plan<'a> {
 
     fn add(&mut self, number: u64, line: DayLine, pairs: &'a [Pair]) -> Result<(), AllocError>
         requires { length pairs.now ≡ pairs_in_spec line }
-        ensures { OnOk result (told self.new ≡ with_call (told self.old) number (calling line pairs.now)) }
+        ensures { OnOk result
+            (told self.new ≡ with_call (told self.old) number (calling line pairs.now)) }
     {
         let Some(call) = call_of(line, pairs) else {
             return self.not_a_call(number);
@@ -89,8 +90,10 @@ impl<'a> Plan<'a> {
         memory: &mut &'a mut [Pair],
     ) -> Result<(), AllocError>
         requires { length line.now ≤ length memory.old.now }
-        ensures told { OnOk result (told self.new ≡ with_line (told self.old) number (line_of line.now) (pairs_of line.now)) }
-        ensures left { OnOk result (length memory.old.now ≤ length memory.new.now + length line.now) }
+        ensures told { OnOk result (told self.new
+            ≡ with_line (told self.old) number (line_of line.now) (pairs_of line.now)) }
+        ensures left { OnOk result
+            (length memory.old.now ≤ length memory.new.now + length line.now) }
     {
         match parse(line, memory) {
             DayLine::Blank => Ok(()),

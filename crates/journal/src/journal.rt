@@ -89,19 +89,25 @@ impl<'a> Accounts for Journal<'a> {
 impl<'a> Ledger for Journal<'a> {
     ghost use Rattle.journal.specs.Shown.{memory_of, lender_of, used_of, running_of};
 
-    ghost took = { λ s ps t. Extended s.lines.now s.used ps t.lines.now t.used × (t.lines.ghost_name ≡ s.lines.ghost_name) };
+    ghost took = { λ s ps t. Extended s.lines.now s.used ps t.lines.now t.used
+        × (t.lines.ghost_name ≡ s.lines.ghost_name) };
 
     ghost none = { λ s. (extended_none s.lines.now s.used, refl) };
 
-    ghost more = { λ s t u ps qs g h. (extended_more s.lines.now s.used ps t.lines.now t.used s.within g.0 qs u.lines.now u.used h.0, h.1 ∙ g.1) };
+    ghost more = { λ s t u ps qs g h. (
+      extended_more s.lines.now s.used ps t.lines.now t.used s.within g.0 qs
+          u.lines.now u.used h.0,
+      h.1 ∙ g.1,
+    ) };
 
     fn post(&mut self, account: usize, cents: i64) -> Result<(), Reason>
-        ensures answered { Answered (journal_view (memory_of self.old) (used_of self.old)) account cents result
+        ensures answered { Answered (journal_view (memory_of self.old) (used_of self.old))
+            account cents result
             (journal_view (memory_of self.new) (used_of self.new)) }
         ensures took { Extended (memory_of self.old) (used_of self.old) (taken account cents result)
             (memory_of self.new) (used_of self.new) × (lender_of self.new ≡ lender_of self.old) }
-        ensures written { Written (memory_of self.old) (used_of self.old) (running_of self.old) account cents
-            result (memory_of self.new) (used_of self.new) (running_of self.new) }
+        ensures written { Written (memory_of self.old) (used_of self.old) (running_of self.old)
+            account cents result (memory_of self.new) (used_of self.new) (running_of self.new) }
         ensures lender { lender_of self.new ≡ lender_of self.old }
     {
         check_post(self, account, cents)?;

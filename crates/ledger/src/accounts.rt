@@ -52,7 +52,8 @@ pub trait Ledger: Accounts {
     ghost none: { (x : Self) → took x [] x };
 
     // posts and then more posts
-    ghost more: { (x y z : Self) (ps qs : List Post) → took x ps y → took y qs z → took x (ps ++ qs) z };
+    ghost more: { (x y z : Self) (ps qs : List Post) →
+        took x ps y → took y qs z → took x (ps ++ qs) z };
 
     // Adds the cents to the account's balance, or refuses for the first reason that holds and changes nothing.
     // Kept: account and cents are all that a post is told; a struct of the two would be taken apart at once.

@@ -71,20 +71,20 @@ fn rung(price: i64, capacity: u32, facility: u32, pair: u32, kw: u32) -> Rung {
 
 fn ordered(row: Row, working: &mut [Rung]) -> Option<usize> {
     let register = four_stations()?;
-    let sheet = Sheet::checked(&register, row)?;
+    let sheet = Sheet::checked(&register, &row)?;
     merit_order(&sheet, working)
 }
 
 fn cleared(row: Row, working: &mut [Rung]) -> Option<(i64, u32)> {
     let register = four_stations()?;
-    let sheet = Sheet::checked(&register, row)?;
+    let sheet = Sheet::checked(&register, &row)?;
     clearing(&sheet, working)
 }
 
 fn priced(demand: u32) -> Option<(i64, u32)> {
     let register = four_stations()?;
     let row = offered(demand)?;
-    let sheet = Sheet::checked(&register, row)?;
+    let sheet = Sheet::checked(&register, &row)?;
     let (price, facility) = balancing_price(&sheet)?;
     Some((price.get(), facility))
 }

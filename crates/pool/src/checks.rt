@@ -36,7 +36,8 @@ pub fn before_open(register: &Register) -> Result<(), Refusal>
 
 // The day's prices, once it is open.
 pub fn after_open(register: &Register) -> Result<Prices, Refusal>
-    ensures { Passes (is_open (prices_of register.now)) (λ z. prices_of register.now ≡ Some z) result }
+    ensures { Passes (is_open (prices_of register.now)) (λ z. prices_of register.now ≡ Some z)
+        result }
 {
     register.prices().ok_or(Refusal::Sequence)
 }
@@ -55,7 +56,8 @@ pub fn known_account(account: u32) -> Result<(), Refusal>
 
 // The place of a facility in a table.
 pub fn facility_place(register: &Register, facility: u32) -> Result<usize, Refusal>
-    ensures { Passes (facility_known (known register.now) facility) (IsPlaceOf (known register.now) facility) result }
+    ensures { Passes (facility_known (known register.now) facility)
+        (IsPlaceOf (known register.now) facility) result }
 {
     // Kept: each end is a test of its own, as the table has it; a range would need the number as a place first.
     let known = facility >= 1 && facility as usize <= register.facilities().len();
@@ -76,12 +78,12 @@ pub fn sheet_place(rows: &[Row], interval: u32) -> Result<usize, Refusal>
 // The row as a sheet in which the event has a place.
 pub fn sheet_for<'a>(
     register: &'a Register,
-    row: Row,
+    row: &Row,
     event: Event,
     interval: u32,
 ) -> Result<Sheet<'a>, Refusal>
-    ensures { Passes (in_state (known register.now) (prices_of register.now) row event interval)
-        (λ s. (comes row event ≡ true) × ((row_of s ≡ row) × (register_of s ≡ register.now)))
+    ensures { Passes (in_state (known register.now) (prices_of register.now) row.now event interval)
+        (λ s. (comes row.now event ≡ true) × ((row_of s ≡ row.now) × (register_of s ≡ register.now)))
         result }
 {
     let sheet = Sheet::checked(register, row).ok_or(Refusal::State(interval))?;

@@ -53,7 +53,7 @@ pub fn close(
 {
     after_open(register)?;
     let at = sheet_place(rows, interval)?;
-    let sheet = sheet_for(register, rows[at], Event::Close, interval)?;
+    let sheet = sheet_for(register, &rows[at], Event::Close, interval)?;
     rungs_suffice(rungs.len())?;
     demand_there(sheet.demand())?;
     offers_reach(&sheet, interval)?;

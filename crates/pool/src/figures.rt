@@ -37,7 +37,7 @@ pub fn start(
     after_open(register)?;
     let at = sheet_place(rows, interval)?;
     let place = facility_place(register, facility)?;
-    let sheet = sheet_for(register, rows[at], Event::Figure, interval)?;
+    let sheet = sheet_for(register, &rows[at], Event::Figure, interval)?;
     start_in_span(kw)?;
     let sheet = sheet.with_start(place, kw).unwrap();
     rows[at] = sheet.row();
@@ -64,7 +64,7 @@ pub fn reading(
     after_open(register)?;
     let at = sheet_place(rows, interval)?;
     let place = facility_place(register, facility)?;
-    let sheet = sheet_for(register, rows[at], Event::Figure, interval)?;
+    let sheet = sheet_for(register, &rows[at], Event::Figure, interval)?;
     reading_in_span(kwmin)?;
     let sheet = sheet.with_reading(place, kwmin).unwrap();
     rows[at] = sheet.row();
@@ -72,7 +72,8 @@ pub fn reading(
 }
 
 fn position_in_span(position: Position) -> Result<(), Refusal>
-    ensures { result ≡ figures 1 (contract_fits position.contract ∷ (load_fits position.load ∷ [])) }
+    ensures { result ≡ figures 1
+        (contract_fits position.contract ∷ (load_fits position.load ∷ [])) }
 {
     figure(1, (-60_000_000..=60_000_000).contains(&position.contract))?;
     figure(2, position.load <= 60_000_000)
@@ -87,12 +88,13 @@ pub fn position(
     position: Position,
 ) -> Result<(), Refusal>
     ensures { (v : View) → Does (λ _. answer.Set) (held register.now rows.old) v
-        (call.Position account interval position.contract position.load) result (held register.now rows.new) v }
+        (call.Position account interval position.contract position.load) result
+        (held register.now rows.new) v }
 {
     after_open(register)?;
     let at = sheet_place(rows, interval)?;
     known_account(account)?;
-    let sheet = sheet_for(register, rows[at], Event::Figure, interval)?;
+    let sheet = sheet_for(register, &rows[at], Event::Figure, interval)?;
     position_in_span(position)?;
     let sheet = sheet.with_position(account as usize - 1, position).unwrap();
     rows[at] = sheet.row();
@@ -112,7 +114,7 @@ pub fn demand(register: &Register, rows: &mut [Row], interval: u32, kw: u32) -> 
 {
     after_open(register)?;
     let at = sheet_place(rows, interval)?;
-    let sheet = sheet_for(register, rows[at], Event::Demand, interval)?;
+    let sheet = sheet_for(register, &rows[at], Event::Demand, interval)?;
     demand_in_span(kw)?;
     let sheet = sheet.with_demand(kw).unwrap();
     rows[at] = sheet.row();

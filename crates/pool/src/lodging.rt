@@ -32,7 +32,7 @@ pub fn lodge(
     let prices = after_open(register)?;
     let at = sheet_place(rows, interval)?;
     let place = facility_place(register, facility)?;
-    let sheet = sheet_for(register, rows[at], Event::Lodge, interval)?;
+    let sheet = sheet_for(register, &rows[at], Event::Lodge, interval)?;
     not_too_many(pairs)?;
     lodge_in_span(prices, ramp_up, ramp_down, pairs)?;
     let submission = submission_of(

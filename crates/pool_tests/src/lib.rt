@@ -57,7 +57,7 @@ fn offering(kw: u32) -> Row {
 // Whether the row is a sheet that has a state.
 fn has_state(row: Row) -> bool {
     let register = open_day();
-    Sheet::checked(&register, row).is_some()
+    Sheet::checked(&register, &row).is_some()
 }
 
 // A settled row: a price, a reading of each station, the start of the one that offers, and a load.

@@ -60,7 +60,9 @@ fn block_between(p: Pair, factor: LossFactor, below: u64, through: u64) -> Block
 pub(crate) fn lay_blocks(ramp: Ramp, factor: LossFactor, curve: &[Pair], slots: &mut [Block])
     requires room { length curve.now ≤ length slots.old }
     requires few { curves.total curve.now ≤ 1000000 }
-    ensures { slots.new ≡ blocking.blocks_from (ramps.energy ramp.start ramp.up ramp.down) (factor_parts factor) 0 curve.now ++ drop (length curve.now) slots.old }
+    ensures { slots.new
+        ≡ blocking.blocks_from (ramps.energy ramp.start ramp.up ramp.down) (factor_parts factor)
+        0 curve.now ++ drop (length curve.now) slots.old }
 {
     let mut cheaper = 0;
     let mut below = ramp.energy(0);
@@ -77,7 +79,8 @@ impl Taken {
     fn cost(self, factor: LossFactor, price: BalancingPrice) -> u64
         requires near { blocking.Priced self }
         requires few { self.energy ≤ 30000000 }
-        ensures value { result ≡ blocking.cost_of (factor_parts factor) (price_cents price) self.block self.energy }
+        ensures value { result ≡ blocking.cost_of (factor_parts factor) (price_cents price)
+            self.block self.energy }
         ensures bound { result ≤ 3125000000 * self.energy }
     {
         self.energy * factor.get() as u64 * self.block.price.abs_diff(price.get())
@@ -138,7 +141,8 @@ impl Blocks {
 pub(crate) fn divide<F: Fn(i64) -> bool>(blocks: &[Block], amount: u64, counts: F) -> Blocks
     requires few { length blocks.now ≤ 8 }
     requires callable { F.IsAlwaysCallable counts }
-    ensures { (test : ℤ → Bool) → Tests (F.post counts) test → result ≡ blocking.divided amount (filter (λ b. test b.price) blocks.now) }
+    ensures { (test : ℤ → Bool) → Tests (F.post counts) test →
+        result ≡ blocking.divided amount (filter (λ b. test b.price) blocks.now) }
 {
     // Kept: `take` requires room, which the number of turns shows; std's lemmas show a bound in a `fold` only where its value is a number.
     let mut t = Blocks::untaken(amount);

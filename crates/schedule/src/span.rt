@@ -20,11 +20,9 @@ impl TryFrom<u32> for LossFactor {
 
     type Error = OutOfSpan;
 
-    ghost try_from_gives = {
-        λ value result. MatchResult result
+    ghost try_from_gives = { λ value result. MatchResult result
         (λ f. (factor_fits value ≡ true) × (factor_parts f ≡ value))
-        (λ _. factor_fits value ≡ false)
-    };
+        (λ _. factor_fits value ≡ false) };
 
     fn try_from(value: u32) -> Result<LossFactor, OutOfSpan> {
         if !(8_000..=12_500).contains(&value) {
@@ -60,11 +58,9 @@ impl TryFrom<i64> for BalancingPrice {
 
     type Error = OutOfSpan;
 
-    ghost try_from_gives = {
-        λ cents result. MatchResult result
+    ghost try_from_gives = { λ cents result. MatchResult result
         (λ p. (balancing_fits cents ≡ true) × (price_cents p ≡ cents))
-        (λ _. balancing_fits cents ≡ false)
-    };
+        (λ _. balancing_fits cents ≡ false) };
 
     fn try_from(cents: i64) -> Result<BalancingPrice, OutOfSpan> {
         if !(-125_000..=125_000).contains(&cents) {

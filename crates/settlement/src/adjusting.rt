@@ -37,7 +37,7 @@ pub fn adjust<L: Ledger>(
     after_open(register)?;
     let at = sheet_place(rows, interval)?;
     let place = facility_place(register, facility)?;
-    let sheet = sheet_for(register, rows[at], Event::Adjust, interval)?;
+    let sheet = sheet_for(register, &rows[at], Event::Adjust, interval)?;
     reading_in_span(kwmin)?;
     let (corrected, changes) = correction(sheet, place, kwmin).unwrap();
     let posts = post_amounts(ledger, &changes)?;

@@ -60,7 +60,7 @@ pub fn settle<L: Ledger>(
 {
     after_open(register)?;
     let at = sheet_place(rows, interval)?;
-    let sheet = sheet_for(register, rows[at], Event::Settle, interval)?;
+    let sheet = sheet_for(register, &rows[at], Event::Settle, interval)?;
     all_complete(sheet.figures())?;
     has_load(&sheet, interval)?;
     let amounts = nets(&sheet).unwrap();

@@ -16,7 +16,9 @@ impl Station {
     fn lay(&self, slots: &mut [Block]) -> usize
         requires { length slots.old ≡ 8 }
         ensures few { result ≤ 8 }
-        ensures front { take result slots.new ≡ blocking.blocks_from (stations.energy_of (operation self.now)) (operation self.now).factor 0 (operation self.now).curve }
+        ensures front { take result slots.new
+            ≡ blocking.blocks_from (stations.energy_of (operation self.now))
+            (operation self.now).factor 0 (operation self.now).curve }
     {
         let curve = self.submission.curve.listed();
         lay_blocks(self.ramp(), self.factor, curve, slots);
@@ -26,10 +28,9 @@ impl Station {
     // Its energy out of merit, divided over its blocks: upward the pairs above the price in the curve's order,
     // downward those below it in reverse, each taking what is left up to its limit.
     pub fn blocks(&self, price: BalancingPrice) -> Blocks
-        ensures {
-            result ≡ blocking.divided (stations.energy_counted (operation self.now) (price_cents price))
-            (stations.blocks_of (operation self.now) (price_cents price))
-        }
+        ensures { result ≡ blocking.divided
+            (stations.energy_counted (operation self.now) (price_cents price))
+            (stations.blocks_of (operation self.now) (price_cents price)) }
     {
         let mut all = [Block { price: 0, limit: 0 }; 8];
         match self.out_of_merit(price) {

@@ -18,7 +18,8 @@ use offers::pair::Pair;
 fn kw_where<F: Fn(i64) -> bool>(curve: &[Pair], factor: LossFactor, counts: F) -> u32
     requires few { curves.total curve.now ≤ 1000000 }
     requires callable { F.IsAlwaysCallable counts }
-    ensures { (test : ℤ → Bool) → Tests (F.post counts) test → result ≡ blocking.kw_where test (factor_parts factor) curve.now }
+    ensures { (test : ℤ → Bool) → Tests (F.post counts) test →
+        result ≡ blocking.kw_where test (factor_parts factor) curve.now }
 {
     curve.iter().fold(0, |kw, p| {
         if counts(adjusted_price(p.price, factor)) {

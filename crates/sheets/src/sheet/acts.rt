@@ -28,14 +28,17 @@ fn row_sound(register: &Register, row: &Row) -> bool
 
 impl<'a> Sheet<'a> {
     // The row as a sheet; nothing where it has no state.
-    pub fn checked(register: &'a Register, row: Row) -> Option<Sheet<'a>>
-        ensures { Becomes (sheet_sound (known register.now) (prices_of register.now) row)
-            register.now row result }
+    pub fn checked(register: &'a Register, row: &Row) -> Option<Sheet<'a>>
+        ensures { Becomes (sheet_sound (known register.now) (prices_of register.now) row.now)
+            register.now row.now result }
     {
-        if !row_sound(register, &row) {
+        if !row_sound(register, row) {
             return None;
         }
-        Some(Sheet { register, row })
+        Some(Sheet {
+            register,
+            row: *row,
+        })
     }
 
     // The row, to be written back.

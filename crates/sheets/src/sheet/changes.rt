@@ -30,7 +30,8 @@ impl<'a> Sheet<'a> {
 
     // Another submission of the facility at a place, which the open sheet takes.
     pub fn with_submission(self, at: usize, submission: Submission) -> Option<Sheet<'a>>
-        ensures { Becomes (takes_submission (register_of self.entry) (row_of self.entry) at submission)
+        ensures { Becomes
+            (takes_submission (register_of self.entry) (row_of self.entry) at submission)
             (register_of self.entry) (with_submission (row_of self.entry) at submission) result }
     {
         let prices = self.register.prices()?;
