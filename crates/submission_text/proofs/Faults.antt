@@ -1,6 +1,10 @@
--- A submission is read by a plan of lines, so its first faulty line is told.
-use Rattle.std.proofs.Common.{◌≡◌, ℕ, zero, suc, ◌+◌, ◌-◌, ◌↔◌, List, [], ◌∷◌, ◌++◌, pos, Ok, Err, codes, Result, IfErr, sym, refl, ap, ◌∙◌, arith, add-one}
+-- A submission is read by a plan of lines, so its first faulty line is told, and there is one.
+use Rattle.std.proofs.Common.{◌≡◌, ℕ, zero, suc, ◌+◌, ◌-◌, ◌↔◌, List, [], ◌∷◌, ◌++◌, pos, Ok, Err, codes, Result, IfErr, sym, refl, ap, ◌∙◌, arith, add-one, ◌<◌, subst, ⊎_elim}
+use Rattle.std.proofs.lemmas.Bool.{cases_lt}
+use Rattle.text.specs.declared.line.LineFault.{LineFault}
+use Rattle.text.specs.declared.line.LineFault.TheVariants.{Key, Number, Feed, Extra}
 use Rattle.text.specs.declared.refusal.Refusal.{Refusal}
+use Rattle.text.specs.Refusals.{refusal_number, cause}
 use Rattle.text.specs.Numbers.{natural_of}
 use Rattle.text.specs.Lines.{natural_line_of, placed}
 use Rattle.text.proofs.Canonical.{ok_in_span}
@@ -10,16 +14,18 @@ use Rattle.offers.specs.Curves.{curve, stored}
 use Rattle.submission_text.specs.declared.file.Head.{Head}
 use Rattle.submission_text.specs.declared.file.SubmissionFile.{SubmissionFile}
 use Rattle.submission_text.specs.Read.{and_then, priced, pair_of, pair_line_of, pairs_from, curved, closed, file_of, read_of}
-use Rattle.submission_text.specs.Faults.{IsAccepted, due_key, FirstFault}
+use Rattle.submission_text.specs.Faults.{CanGoOn, FaultAfter, IsAccepted, due_key, FirstFault, OneFault}
 use Rattle.submission_text.proofs.Claims.{reads_lines}
 use Rattle.submission_text.proofs.Trips.{plain_facility, plain_interval, plain_up, plain_down, plain_pairs, plain_pair}
+use Rattle.submission_text.proofs.FirstLines.{same_fewer}
 use Rattle.submission_text.proofs.Plans.{Plan, run, Runs, Sound, Good, retold, first_faulty}
 use Rattle.submission_text.proofs.Plans.Plan.{done, line}
 
 -- ---- the plan
 abbrev pairs_plan : Head → ℕ → ℕ → List Pair → Plan SubmissionFile
 pairs_plan h zero room ps = done (file_of h (stored (curve ps)))
-pairs_plan h (suc n) room ps = line (codes "pair") (pair_of room) (λ p. pairs_plan h n (room - p.kw) (ps ++ (p ∷ [])))
+pairs_plan h (suc n) room ps =
+    line (codes "pair") (pair_of room) (λ p. pairs_plan h n (room - p.kw) (ps ++ (p ∷ [])))
 
 abbrev file_plan : Plan SubmissionFile
 file_plan =
@@ -134,6 +140,44 @@ first_fault s r e =
       (λ z. (z.0, sym (file_run t) ∙ (reads_lines t z.0).1 z.1)),
     )
 
-pub first_faults : (s : List ℕ) (r : Result SubmissionFile Refusal) → r ≡ read_of s → IfErr r (λ d. FirstFault s d)
+pub first_faults : (s : List ℕ) (r : Result SubmissionFile Refusal) → r ≡ read_of s
+    → IfErr r (λ d. FirstFault s d)
 first_faults s (Ok x) e = tt
 first_faults s (Err d) e = first_fault s d (sym e)
+
+-- ---- one text, one fault
+goes_less : (A : List ℕ → Type 0) (s : List ℕ) (k n m : ℕ) → m ≡ k + n → CanGoOn A m s → CanGoOn A n s
+goes_less A s zero n m e z = let q : m ≡ n = omega arith in subst (λ x. CanGoOn A x s) q z
+goes_less A s (suc k) n m e z =
+    let q : m ≡ suc (k + n) = omega arith in
+    let more : CanGoOn A (suc (k + n)) s = subst (λ x. CanGoOn A x s) q z in
+    goes_less A s k n (k + n) refl (more.0, more.1, same_fewer (k + n) s more.0 more.2)
+
+module _ (A : List ℕ → Type 0) (due : ℕ → List ℕ) (s : List ℕ) where
+  not_before : (m n a b : ℕ) → FaultAfter A due s m a → FaultAfter A due s n b → m < n → ⊥
+  not_before m n a b g h lt =
+      let e : n ≡ (n - suc m) + suc m = omega arith in g.faulty (goes_less A s (n - suc m) (suc m) n e h.begun)
+
+  one_place : (m n a b : ℕ) → FaultAfter A due s m a → FaultAfter A due s n b → m ≡ n
+  one_place m n a b g h =
+      ⊎_elim
+      (λ lt. absurd (not_before m n a b g h lt))
+      (λ le. ⊎_elim (λ lt. absurd (not_before n m b a h g lt)) (λ ge. omega arith) (cases_lt n m))
+      (cases_lt m n)
+
+  one_number : (f : LineFault) (n b : ℕ) → FaultAfter A due s n (refusal_number (cause f))
+      → FaultAfter A due s n b → b ≡ refusal_number (cause f)
+  one_number Key n b g h = h.wrong_key.1 (g.wrong_key.0 refl)
+  one_number (Number d) n b g h = h.bad_number.1 (g.bad_number.0 refl)
+  one_number Feed n b g h = h.bad_end.1 (g.bad_end.0 refl)
+  one_number Extra n b g h = h.bad_end.1 (g.bad_end.0 refl)
+
+pub one_fault : OneFault
+one_fault s q r g h =
+    let a = refusal_number (cause q.fault) in
+    let b = refusal_number (cause r.fault) in
+    let same = one_place IsAccepted due_key s g.good h.good a b g.fault h.fault in
+    let here = subst (λ n. FaultAfter IsAccepted due_key s n a) same g.fault in (
+      g.place ∙ ap suc same ∙ sym h.place,
+      one_number IsAccepted due_key s r.fault h.good a h.fault here,
+    )

@@ -1,5 +1,5 @@
 -- The first lines of a text: where two texts agree in them, they agree line by line.
-use Rattle.std.proofs.Common.{◌≡◌, ℕ, suc, eqb, List, [], ◌∷◌, ◌++◌, Some, None, Option, sym, refl, ap, ◌∙◌, ⊎_elim, arith}
+use Rattle.std.proofs.Common.{◌≡◌, ℕ, zero, suc, eqb, List, [], ◌∷◌, ◌++◌, Some, None, Option, sym, refl, ap, ◌∙◌, ⊎_elim, arith}
 use Rattle.std.proofs.lemmas.List.{append_assoc, append-nil}
 use Rattle.std.proofs.lemmas.Bool.{cond-true, cond-false, cases_Bool}
 use Rattle.std.specs.Option.{option_map, option_map_or}
@@ -40,7 +40,7 @@ closed_back s e = ap (λ l. after 10 (l ++ 10 ∷ [])) (uncut 10 s e) ∙ joined
 
 -- ---- the first line of the first lines
 -- a feed and the first n lines behind it, where there is a feed
-abbrev fed : ℕ → Option (List ℕ) → List ℕ
+abbrev pub fed : ℕ → Option (List ℕ) → List ℕ
 fed n o = option_map_or (λ rest. 10 ∷ first_lines n rest) o []
 
 pub first_front : (n : ℕ) (s : List ℕ) → before 10 (first_lines (suc n) s) ≡ before 10 s
@@ -58,9 +58,9 @@ first_back n s = go (after 10 s)
     go None = after_past 10 (before 10 s) [] (before_free 10 s)
     go (Some rest) = joined_back s (first_lines n rest)
 
-pub first_of : (n : ℕ) (s rest : List ℕ) → after 10 s ≡ Some rest
-    → first_lines (suc n) s ≡ before 10 s ++ 10 ∷ first_lines n rest
-first_of n s rest e = ap (λ o. before 10 s ++ fed n o) e
+pub first_of : (n : ℕ) (s l : List ℕ) (o : Option (List ℕ)) → before 10 s ≡ l → after 10 s ≡ o
+    → first_lines (suc n) s ≡ l ++ fed n o
+first_of n s l o a b = ap (λ k. k ++ fed n (after 10 s)) a ∙ ap (λ p. l ++ fed n p) b
 
 -- ---- two texts with the same first lines
 module _ (n : ℕ) (s t : List ℕ) (same : first_lines (suc n) t ≡ first_lines (suc n) s) where
@@ -89,6 +89,24 @@ module _ (n : ℕ) (s t : List ℕ) (same : first_lines (suc n) t ≡ first_line
       go : (o : Option (List ℕ)) → after 10 t ≡ o → after 10 t ≡ None
       go None q = q
       go (Some other) q = absurd (apart_some (first_lines n other) (sym (same_back (Some other) None q e)))
+
+-- one line less is the same too
+pub same_fewer : (n : ℕ) (s t : List ℕ) → first_lines (suc n) t ≡ first_lines (suc n) s
+    → first_lines n t ≡ first_lines n s
+same_fewer zero s t e = refl
+same_fewer (suc n) s t e = go (λ rest other. same_fewer n rest other) (after 10 s) refl
+  where
+    go : ((rest other : List ℕ) → first_lines (suc n) other ≡ first_lines (suc n) rest
+        → first_lines n other ≡ first_lines n rest)
+        → (o : Option (List ℕ)) → after 10 s ≡ o → first_lines (suc n) t ≡ first_lines (suc n) s
+    go h None q =
+        first_of n t (before 10 s) None (same_front (suc n) s t e) (same_end (suc n) s t e q)
+        ∙ sym (first_of n s (before 10 s) None refl q)
+    go h (Some rest) q =
+        let o = same_rest (suc n) s t e rest q in
+        first_of n t (before 10 s) (Some o.0) (same_front (suc n) s t e) o.1
+        ∙ ap (λ l. before 10 s ++ 10 ∷ l) (h rest o.0 o.2)
+        ∙ sym (first_of n s (before 10 s) (Some rest) refl q)
 
 -- a text with bytes has a first line
 pub first_bytes : (c : ℕ) (cs : List ℕ) → [] ≡ first_lines 1 (c ∷ cs) → ⊥

@@ -193,13 +193,11 @@ module _ {A X : Type 0} (key : List ℕ) (f : List ℕ → Result X NumberFault)
           let l = before 10 s in
           let t = l ++ 10 ∷ z.0 in
           let front = texts.joined_front s z.0 in
-          let behind = texts.joined_back s z.0 in
-          let lines : first_lines (suc m) t ≡ l ++ 10 ∷ first_lines m z.0 =
-          texts.first_of m t z.0 behind ∙ ap (λ l. l ++ 10 ∷ first_lines m z.0) front in
-          let same : first_lines (suc m) s ≡ l ++ 10 ∷ first_lines m rest = texts.first_of m s rest fed in (
+          let behind = texts.joined_back s z.0 in (
             t,
             (z.1.0, goes_on t z.0 x (alike s t front ∙ read) behind ∙ z.1.1),
-            lines ∙ ap (λ u. l ++ 10 ∷ u) z.2 ∙ sym same,
+            texts.first_of m t l (Some z.0) front behind ∙ ap (λ u. l ++ 10 ∷ u) z.2
+                ∙ sym (texts.first_of m s l (Some rest) refl fed),
           )
 
       whole : (m : ℕ) → run plan n (first_lines (suc m) s) ≡ run (next x) (suc n) (first_lines m rest)

@@ -74,3 +74,8 @@ pub record FirstFault (s : List ℕ) (r : Refusal) : Type 0 where
   pub good : ℕ
   pub place : r.line ≡ suc good
   pub fault : FaultAfter IsAccepted due_key s good (refusal_number (cause r.fault))
+
+-- of one text no two refusals differ in line or number
+abbrev pub OneFault : Type 0
+OneFault = (s : List ℕ) (q r : Refusal) → FirstFault s q → FirstFault s r
+    → (q.line ≡ r.line) × (refusal_number (cause q.fault) ≡ refusal_number (cause r.fault))

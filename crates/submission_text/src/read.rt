@@ -6,7 +6,7 @@ ghost use Rattle.text.specs.declared.number.NumberFault.{NumberFault as Fault};
 ghost use Rattle.text.specs.Lines.{line_of, natural_line_of, placed, Reads};
 ghost use Rattle.submission_text.specs.Read.{pair_of, pairs_of, curved, head_of, file_of, read_of};
 ghost use Rattle.submission_text.specs.Claims.{ReadsLines};
-ghost use Rattle.submission_text.specs.Faults.{FirstFault};
+ghost use Rattle.submission_text.specs.Faults.{FirstFault, OneFault};
 
 use crate::file::{Head, SubmissionFile};
 use offers::curve::Curve;
@@ -150,6 +150,7 @@ pub fn read(text: &[u8]) -> Result<SubmissionFile, Refusal>
     ensures value { result ≡ read_of text.now }
     ensures lines { ReadsLines text.now result }
     ensures faulty { IfErr result (λ r. FirstFault text.now r) }
+    ensures one_fault { OneFault }
 {
     read_lines(text)
 }
