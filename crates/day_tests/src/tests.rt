@@ -310,13 +310,7 @@ fn answers_too_short(rt: HostRuntime) -> Result<(), Fail> {
     let mut rows = [Row::blank(); 6];
     let mut table = AccountTable::new();
     let mut answers = [UNUSED; 2];
-    let made = make_all(
-        &mut register,
-        &mut rows,
-        &mut table,
-        &OPENING,
-        &mut answers,
-    );
+    let made = make_all(&mut register, &mut rows, &mut table, &OPENING, &mut answers);
     assert!(rt; made == Err(AnswersTooShort { needed: 3 }));
     assert!(rt; answers == [UNUSED; 2]);
     assert!(rt; register.facilities().is_empty() && table.balance(0) == Some(0));
@@ -329,13 +323,7 @@ fn slots_behind_the_answers(rt: HostRuntime) -> Result<(), Fail> {
     let mut rows = [Row::blank(); 6];
     let mut table = AccountTable::new();
     let mut answers = [UNUSED; 5];
-    let made = make_all(
-        &mut register,
-        &mut rows,
-        &mut table,
-        &OPENING,
-        &mut answers,
-    );
+    let made = make_all(&mut register, &mut rows, &mut table, &OPENING, &mut answers);
     assert!(rt; made == Ok(()) && answers[2] == Ok(Answer::Opened));
     assert!(rt; answers[0] == Ok(Answer::Number(1)) && answers[1] == Ok(Answer::Number(2)));
     assert!(rt; answers[3] == UNUSED && answers[4] == UNUSED);
