@@ -1,4 +1,6 @@
-// Small day files, and what is printed of them.
+// Small day files and a long one, and what is printed of them.
+mod long;
+
 use crate::settled::settle;
 use std::alloc::{AllocError, Global};
 use std::test::Fail;

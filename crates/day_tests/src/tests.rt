@@ -1,4 +1,5 @@
 // A sheet worked by hand, alone and among others, on ledgers that take its nets and on ledgers that do not.
+mod long;
 mod small;
 mod worked;
 
