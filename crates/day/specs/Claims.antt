@@ -13,14 +13,17 @@ abbrev pub answer_of : {X : Type 0} → (X → Answer) → Result X Refusal → 
 answer_of wrap (Ok x) = Ok (wrap x)
 answer_of wrap (Err f) = Err f
 
--- a call that did what its own contract says, on the ledger x that is y after it, is a list of one call
+-- a call that did what its own contract says, on the ledger x that is y after it, is a list of calls
 abbrev pub OneCallGoes : (X : Type 0) {L : Type 0} → Seen L → Took L → Type 0
 OneCallGoes X {L = L} view took =
     (wrap : X → Answer) (d : Day) (x : L) (c : Call) (r : Result X Refusal) (e : Day) (y : L) →
-    Does wrap d (view x) c r e (view y) → took x (made_posts d c r) y → Keeps (made_posts d c r) x y →
+    Does wrap d (view x) c r e (view y) →
+    took x (made_posts d c r) y →
+    Keeps (made_posts d c r) x y →
     Goes view took d x (c ∷ []) (answer_of wrap r ∷ []) e y
 
--- so is a call that was lent no ledger, whose contract speaks of every ledger as seen: the ledger is the very same
+-- so is a call that was lent no ledger, whose contract speaks of every ledger as seen: the ledger
+-- is the very same
 abbrev pub QuietCallGoes : (X : Type 0) {L : Type 0} → Seen L → Took L → Type 0
 QuietCallGoes X {L = L} view took =
     (wrap : X → Answer) (d : Day) (x : L) (c : Call) (r : Result X Refusal) (e : Day) →
@@ -34,7 +37,8 @@ ListsGoOn {L = L} view took =
     Goes view took d x cs rs e y → Goes view took e y ds ss f z →
     Goes view took d x (cs ++ ds) (rs ++ ss) f z
 
--- calls that each do what their own contract says, from blank register and sheets on, follow the law of the day
+-- calls that each do what their own contract says, from blank register and sheets on, follow the law
+-- of the day
 abbrev pub LawStands : {L : Type 0} → Seen L → Took L → Type 0
 LawStands {L = L} view took =
     (n : ℕ) (d e : Day) (x z : L) (cs : List Call) (rs : List Answered) →

@@ -20,10 +20,13 @@ use Rattle.pool.specs.Day.{Day, Does, table, answer, after, posted, made_posts, 
 use Rattle.day.specs.Book.{Offer, Page, Book, Answered, blank, absent, fed, kept, told_offer, told_entry, told_page, told}
 
 -- ---- each call
--- Taken exactly where the table, read on the book and the ledger before the call, refuses nothing, with the answer that the book gives
--- and its amounts posted; else refused as the table says, and nothing is posted.
+-- Taken exactly where the table, read on the book and the ledger before the call, refuses nothing,
+-- with the answer that the book gives and its amounts posted; else refused as the table says, and
+-- nothing is posted.
 abbrev pub Heeds : Book → View → Call → Answered → View → Type 0
-Heeds b v c (Ok a) w = (table (told b) v c ≡ Ok tt) × ((a ≡ answer (told b) c) × Moves v (posted (told b) c) w)
+Heeds b v c (Ok a) w =
+    (table (told b) v c ≡ Ok tt)
+    × ((a ≡ answer (told b) c) × Moves v (posted (told b) c) w)
 Heeds b v c (Err f) w = (table (told b) v c ≡ Err f) × (w ≡ v)
 
 -- ---- a ledger of some kind L: how it is seen, and what posts taken one after another do to it
@@ -37,9 +40,10 @@ Took L = L → List Post → L → Type 0
 abbrev pub Keeps : {L : Type 0} → List Post → L → L → Type 0
 Keeps ps x y = ps ≡ [] → y ≡ x
 
--- A list of calls on the ledger x, which is z after them: between two calls the ledger is one of its kind, that has taken the
--- posts of the call before, and is the very same where there were none.
-abbrev pub Follows : {L : Type 0} → Seen L → Took L → Book → L → List Call → List Answered → L → Type 0
+-- A list of calls on the ledger x, which is z after them: between two calls the ledger is one of its
+-- kind, that has taken the posts of the call before, and is the very same where there were none.
+abbrev pub Follows :
+    {L : Type 0} → Seen L → Took L → Book → L → List Call → List Answered → L → Type 0
 Follows view took b x [] [] z = z ≡ x
 Follows view took b x [] (r ∷ rs) z = ⊥
 Follows view took b x (c ∷ cs) [] z = ⊥
@@ -77,15 +81,21 @@ Whole fs p =
     (is_some (priced_at fs (figures_of fs (told_page p)) p.demand) ≡ true)
     × ((all complete (figures_of fs (told_page p)) ≡ true) × (has_load p.positions ≡ true))
 
--- On a settled sheet, for each facility that offers: no division of its out-of-merit energy qualifies more than the one that its own part of the
--- compensation rests on, and any that qualifies as much costs at least as much.
+-- On a settled sheet, for each facility that offers: no division of its out-of-merit energy qualifies
+-- more than the one that its own part of the compensation rests on, and any that qualifies as much
+-- costs at least as much.
 abbrev pub Least : List Facility → Page → Type 0
 Least fs p =
-    p.state ≡ state.Settled → (k : ℕ) (o : Offer) → k < length fs → (slice_index_or p.entries k absent).offer ≡ Some o →
-    LeastPaid (operation_of (slice_index_or fs k no_facility) (told_entry (slice_index_or p.entries k absent)) (told_offer o)) (priced_page fs p).price
+    p.state ≡ state.Settled →
+    (k : ℕ) (o : Offer) → k < length fs → (slice_index_or p.entries k absent).offer ≡ Some o →
+    LeastPaid
+    (operation_of (slice_index_or fs k no_facility)
+    (told_entry (slice_index_or p.entries k absent)) (told_offer o))
+    (priced_page fs p).price
 
--- ---- the law: n blank sheets and the ledger x before the calls, the day d and the ledger z after them
-pub record Law {L : Type 0} (view : Seen L) (took : Took L) (n : ℕ) (x : L) (cs : List Call) (rs : List Answered) (d : Day) (z : L) : Type 0 where
+-- ---- the law: n blank sheets and the ledger x before the calls, the day d and the ledger z after
+pub record Law {L : Type 0} (view : Seen L) (took : Took L)
+    (n : ℕ) (x : L) (cs : List Call) (rs : List Answered) (d : Day) (z : L) : Type 0 where
   -- the sum over all the ledger's accounts is what it was
   pub sum : ledger_sum (view z) ≡ ledger_sum (view x)
   -- each call was refused exactly where the table refuses it
@@ -93,7 +103,10 @@ pub record Law {L : Type 0} (view : Seen L) (took : Took L) (n : ℕ) (x : L) (c
   -- register and sheets hold what the book holds
   pub holds : d ≡ told (kept (blank n) cs rs)
   -- each balance has gained the account's nets over the settled sheets
-  pub gained : Gained (view x) (λ a. gains (kept (blank n) cs rs).facilities a (kept (blank n) cs rs).pages) (view z)
+  pub gained :
+      Gained (view x)
+      (λ a. gains (kept (blank n) cs rs).facilities a (kept (blank n) cs rs).pages)
+      (view z)
   pub whole : AllByRecursion (Whole (kept (blank n) cs rs).facilities) (kept (blank n) cs rs).pages
   pub least : AllByRecursion (Least (kept (blank n) cs rs).facilities) (kept (blank n) cs rs).pages
 
@@ -104,7 +117,8 @@ written b (c ∷ cs) [] = []
 written b (c ∷ cs) (r ∷ rs) = made_posts (told b) c r ++ written (fed b c r) cs rs
 
 -- ---- the same calls on any register and sheets: each does what its own contract says
-abbrev pub Goes : {L : Type 0} → Seen L → Took L → Day → L → List Call → List Answered → Day → L → Type 0
+abbrev pub Goes :
+    {L : Type 0} → Seen L → Took L → Day → L → List Call → List Answered → Day → L → Type 0
 Goes view took d x [] [] e z = (e ≡ d) × (z ≡ x)
 Goes view took d x [] (r ∷ rs) e z = ⊥
 Goes view took d x (c ∷ cs) [] e z = ⊥
