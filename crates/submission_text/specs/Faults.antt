@@ -72,7 +72,9 @@ due_key (suc (suc (suc (suc (suc n))))) = codes "pair"
 pub record FirstFault (s : List ℕ) (r : Refusal) : Type 0 where
   -- how many lines stand before it
   pub good : ℕ
+  -- the line that is told is the next
   pub place : r.line ≡ suc good
+  -- and it is the first faulty one, for the number that is told
   pub fault : FaultAfter IsAccepted due_key s good (refusal_number (cause r.fault))
 
 -- of one text no two refusals differ in line or number
