@@ -1,12 +1,15 @@
 -- The sheet of two stations, made of its row.
-use Rattle.std.proofs.Common.{◌≡◌, ℕ, Bool, true, false, List, ℤ, Some, None, Option, length, take, refl, ap, ◌∙◌, rules}
+use Rattle.std.proofs.Common.{◌≡◌, ℕ, Bool, true, false, ◌&&◌, List, ℤ, Some, None, Option, length, take, sym, refl, ap, ◌∙◌, nat_lt, rules}
 use Rattle.sheets.specs.declared.register.Register.{Register}
 use Rattle.sheets.specs.declared.row.State.{State}
 use Rattle.sheets.specs.declared.sheet.Sheet.{Sheet}
 use Rattle.sheets.specs.Held.{known}
-use Rattle.sheets.specs.Sheets.{reaches, sheet_sound}
-use Rattle.sheets.specs.Changes.{Becomes}
-use Rattle.amounts.specs.Sheets.{Nets, Change}
+use Rattle.sheets.specs.Sheets.{reaches, reading_fits, sheet_sound, with_reading}
+use Rattle.sheets.specs.declared.facility.Facility.{Facility}
+use Rattle.sheets.specs.declared.row.Row.{Row}
+use Rattle.sheets.specs.Shown.{register_of}
+use Rattle.sheets.specs.Changes.{Becomes, registered}
+use Rattle.amounts.specs.Sheets.{Nets, corrigible, Corrects}
 use Rattle.amounts.specs.Figures.{facilities}
 use Rattle.worked_figures.specs.Nets.{prices, row, closed, Stands, nets_at, change_of}
 
@@ -30,6 +33,22 @@ pub found : (reading : ℕ) (s : Sheet) (o : Option (List ℤ)) → Stands readi
 found reading s None h n = absurd (no_price h.1.1.1 n)
 found reading s (Some ns) h n = rw (h.0, n.1.0, h.1.1.0, h.1.0) refl
 
-pub differs : (from to : ℕ) (old new : Sheet) (o : Option (List ℤ)) → Stands from (Some old) → Stands to (Some new) → Change new old o → o ≡ change_of from to
-differs from to old new None h k n = absurd (no_price (rw (h.1.1.1, k.1.1.1) refl) n)
-differs from to old new (Some ns) h k n = rw (h.0, k.0, n.1, h.1.1.0, k.1.1.0, h.1.0, k.1.0) refl
+-- whether the sheet takes another reading of the first station
+takes : (from to : ℕ) (s : Sheet) → Stands from (Some s) → corrigible s 0 to ≡ reading_fits to
+takes from to s h =
+    let price = h.1.1.1 in
+    let here = h.1.0 in
+    ap (λ b. (registered (register_of s) 0 && reading_fits to) && b) price
+    ∙ ap (λ (fs : List Facility). (nat_lt 0 (length fs) && reading_fits to) && true) here
+    ∙ elim (reading_fits to) as (λ b. (b && true) ≡ b) [ true ↦ refl | false ↦ refl ]
+
+read_is : (from to : ℕ) → with_reading (closed from) 0 to ≡ closed to
+unfolding row
+read_is from to = refl
+
+pub differs : (from to : ℕ) (s t : Sheet) (xs : List ℤ) → Stands from (Some s) → Corrects s 0 to (Some (t, xs)) → Some xs ≡ change_of from to
+differs from to s t xs h n =
+    let fits = sym (takes from to s h) ∙ n.0 in
+    let r : t.row ≡ closed to = n.1.0 ∙ ap (λ (q : Row). with_reading q 0 to) h.1.1.0 ∙ read_is from to in
+    let k : known t.register.now ≡ facilities = ap known n.1.1.0 ∙ h.1.0 in
+    rw (h.0, fits, n.1.1.1, h.1.1.0, r, h.1.0, k) refl

@@ -8,7 +8,7 @@ use Rattle.sheets.specs.declared.row.State.{State}
 use Rattle.sheets.specs.declared.row.State.TheVariants.{Closed}
 use Rattle.sheets.specs.declared.sheet.Sheet.{Sheet}
 use Rattle.sheets.specs.Held.{known}
-use Rattle.sheets.specs.Sheets.{no_figures, sheet_sound}
+use Rattle.sheets.specs.Sheets.{no_figures, reading_fits, sheet_sound}
 use Rattle.amounts.specs.Sheets.{balancing_price, figures_of, row_nets, changed, has_price}
 use Rattle.amounts.specs.Figures.{facilities, figures, positions}
 use Rattle.worked_figures.specs.declared.cases.Pricing.{Pricing}
@@ -44,9 +44,10 @@ price_at reading = of_sheet reading (balancing_price facilities (figures_of faci
 abbrev pub nets_at : ℕ → Option (List ℤ)
 nets_at reading = of_sheet reading (row_nets facilities (closed reading))
 
+-- none where the other reading is outside its span, too
 abbrev pub change_of : ℕ → ℕ → Option (List ℤ)
 change_of from to =
-    if sheet_sound facilities (Some prices) (closed from) && sheet_sound facilities (Some prices) (closed to)
+    if sheet_sound facilities (Some prices) (closed from) && reading_fits to
     then Some (changed (row_nets facilities (closed to)) (row_nets facilities (closed from)))
     else None
 

@@ -3,6 +3,7 @@ ghost use Rattle.std.specs.Prelude.{◌≡◌, [], ◌∷◌, ◌++◌, OnOk, So
 ghost use Rattle.std.specs.Option.{option_map, option_and_then};
 ghost use Rattle.std.specs.Result.{result_map_both};
 ghost use Rattle.ledger.specs.Posting.{reason_number};
+ghost use Rattle.ledgers.specs.Shown.{balances_of, below_of, limits_of};
 ghost use Rattle.refusals.specs.Table.{refusal_number, refusal_place, refusal_reason};
 ghost use Rattle.pool.specs.declared.call.Answer.TheVariants.{Posts};
 ghost use Rattle.worked_figures.specs.Postings as postings;
@@ -23,8 +24,8 @@ use sheets::row::State;
 use std::alloc::{AllocError, Global};
 
 fn table_under(limit: u32) -> CreditLimit<AccountTable>
-    ensures below { result.below.balances ≡ replicate 12 (pos 0) }
-    ensures limits { result.limits ≡ postings.limits limit }
+    ensures below { balances_of (below_of result) ≡ replicate 12 (pos 0) }
+    ensures limits { limits_of result ≡ postings.limits limit }
 {
     let mut limits = [MOST; 64];
     limits[3] = i64::from(limit);

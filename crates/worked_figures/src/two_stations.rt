@@ -1,13 +1,13 @@
 // The sheet of two stations at a reading of the first: its price, its nets, and what another reading changes of them.
 ghost use Rattle.std.specs.Prelude.{◌≡◌, Some};
 ghost use Rattle.std.specs.Option.{IsSomeAnd};
-ghost use Rattle.sheets.specs.Held.{known};
+ghost use Rattle.sheets.specs.Held.{known, prices_of};
 ghost use Rattle.amounts.specs.Figures.{facilities};
 ghost use Rattle.worked_figures.specs.Stations.{figures_if};
 ghost use Rattle.worked_figures.specs.Nets.{prices, row, Stands, price_at, nets_at, change_of};
 
 use crate::cases::{OTHER, Setting, WORKED};
-use amounts::nets::{change, nets};
+use amounts::nets::{correction, nets};
 use merit::price::balancing_price;
 use sheets::facility::{Facility, Prices};
 use sheets::register::Register;
@@ -16,7 +16,12 @@ use sheets::sheet::Sheet;
 
 // The capacity holds the curve of either station.
 fn facility(account: u32, s: &Setting) -> Facility
-    ensures { result ≡ record { account = account; loss_factor = s.now.factor; capacity = 40000; tolerance = s.now.tolerance } }
+    ensures { result ≡ record {
+      account = account;
+      loss_factor = s.now.factor;
+      capacity = 40000;
+      tolerance = s.now.tolerance;
+    } }
 {
     Facility {
         account,
@@ -27,7 +32,7 @@ fn facility(account: u32, s: &Setting) -> Facility
 }
 
 pub fn register() -> Option<Register>
-    ensures { IsSomeAnd result (λ g. (known g ≡ facilities) × (g.prices ≡ Some prices)) }
+    ensures { IsSomeAnd result (λ g. (known g ≡ facilities) × (prices_of g ≡ Some prices)) }
 {
     let mut register = Register::blank();
     register.add(facility(1, &WORKED))?;
@@ -64,11 +69,11 @@ pub fn row_at(state: State, reading: u32) -> Option<Row>
 
 fn sheet_at<'a>(register: &'a Register, reading: u32) -> Option<Sheet<'a>>
     requires facilities { known register.now ≡ facilities }
-    requires prices { register.now.prices ≡ Some prices }
+    requires prices { prices_of register.now ≡ Some prices }
     ensures { Stands reading result }
 {
     let row = row_at(State::Closed, reading)?;
-    Sheet::checked(register, row)
+    Sheet::checked(register, &row)
 }
 
 pub fn price_at(reading: u32) -> Option<i64>
@@ -92,7 +97,7 @@ pub fn change_of(from: u32, to: u32) -> Option<[i64; 12]>
     ensures { result ≡ change_of from to }
 {
     let register = register()?;
-    let old = sheet_at(&register, from)?;
-    let new = sheet_at(&register, to)?;
-    change(&new, &old)
+    let sheet = sheet_at(&register, from)?;
+    let (_, changes) = correction(sheet, 0, to)?;
+    Some(changes)
 }
