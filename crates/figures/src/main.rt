@@ -12,7 +12,8 @@ use worked_figures::cases::{CASES, Case};
 
 // Writes each figure of the lists on a line of its own, then the tally, and nothing else.
 fn write_figures<W: Write>(heap: Global, out: &mut W, stations: &[Case]) -> anyhow::Result<()>
-    ensures { OnOk result (Appends (W.contents out.old) (W.contents out.new) (worked_report stations.now)) }
+    ensures { OnOk result
+        (Appends (W.contents out.old) (W.contents out.new) (worked_report stations.now)) }
 {
     let text = worked_report(heap, stations)?;
     out.write_all(text.as_slice())?;

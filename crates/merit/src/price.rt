@@ -76,8 +76,8 @@ pub fn balancing_price(sheet: &Sheet) -> Option<(BalancingPrice, u32)>
 // The same for a sheet that is to be closed, with its merit order laid into the working rungs. Nothing, with nothing changed,
 // where fewer than 96 rungs are lent, there is no demand, or the offers do not reach it.
 pub fn clearing(sheet: &Sheet, working: &mut [Rung]) -> Option<(i64, u32)>
-    ensures { Clears (facilities_in sheet.now) (figures_in sheet.now) (demand_in sheet.now) working.old
-        result working.new }
+    ensures { Clears (facilities_in sheet.now) (figures_in sheet.now) (demand_in sheet.now)
+        working.old result working.new }
 {
     let demand = sheet.demand()?;
     if working.len() < RUNGS || sheet.offered() < u64::from(demand) {

@@ -83,7 +83,8 @@ pub fn sheet_for<'a>(
     interval: u32,
 ) -> Result<Sheet<'a>, Refusal>
     ensures { Passes (in_state (known register.now) (prices_of register.now) row.now event interval)
-        (λ s. (comes row.now event ≡ true) × ((row_of s ≡ row.now) × (register_of s ≡ register.now)))
+        (λ s. (comes row.now event ≡ true)
+        × ((row_of s ≡ row.now) × (register_of s ≡ register.now)))
         result }
 {
     let sheet = Sheet::checked(register, row).ok_or(Refusal::State(interval))?;

@@ -17,12 +17,20 @@ pub struct Figure {
 impl Model for Figure {
     ghost Value = { Shown };
 
-    ghost view = { λ f. record { what = string_bytes f.what; expected = told f.expected; computed = told f.computed } };
+    ghost view = { λ f. record {
+      what = string_bytes f.what;
+      expected = told f.expected;
+      computed = told f.computed;
+    } };
 }
 
 impl Figure {
     pub fn new(what: String, expected: Answer, computed: Answer) -> Figure
-        ensures { result ≡ record { what = string_bytes what; expected = told expected; computed = told computed } }
+        ensures { result ≡ record {
+          what = string_bytes what;
+          expected = told expected;
+          computed = told computed;
+        } }
     {
         Figure {
             what,

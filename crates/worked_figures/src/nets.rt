@@ -53,7 +53,8 @@ fn push_accounts(
     expected: &[i64; 4],
     computed: Option<[i64; 12]>,
 ) -> Result<(), AllocError>
-    ensures { OnOk result (figures.new.items ≡ figures.old.items ++ account_figures name.now expected.now computed) }
+    ensures { OnOk result (figures.new.items ≡ figures.old.items
+        ++ account_figures name.now expected.now computed) }
 {
     for account in 0..12 {
         figures.push(account_figure(heap, name, expected, computed, account)?)?;

@@ -108,7 +108,8 @@ fn push_settled(
     expected: Option<u64>,
     computed: Option<u64>,
 ) -> Result<(), AllocError>
-    ensures { OnOk result (figures.new.items ≡ figures.old.items ++ postings.settle_figure limit what.now expected computed ∷ []) }
+    ensures { OnOk result (figures.new.items ≡ figures.old.items
+        ++ postings.settle_figure limit what.now expected computed ∷ []) }
 {
     let what = format!(in heap; "settle with a credit limit of {limit} on account 3, {what}")?;
     let expected = Answer::natural(expected);

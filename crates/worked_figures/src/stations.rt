@@ -2,6 +2,7 @@
 ghost use Rattle.std.specs.Prelude.{◌≡◌, ◌<◌, [], ◌∷◌, ◌++◌, IfOk, OnOk, codes, pos, slice_get};
 ghost use Rattle.std.specs.Option.{option_map};
 ghost use Rattle.schedule.specs.Held.{operation};
+ghost use Rattle.schedule.specs.Shown.{price_cents};
 ghost use Rattle.worked_figures.specs.Answers.{told, directed};
 ghost use Rattle.worked_figures.specs.Stations.{station_of, energy_at, block_figure, block_figures, figure_of, schedule_figures, payment_figures, figures_at_work};
 
@@ -66,7 +67,8 @@ fn push_blocks(
     expected: &[u64],
     blocks: &[Taken],
 ) -> Result<(), AllocError>
-    ensures { OnOk result (figures.new.items ≡ figures.old.items ++ block_figures name.now expected.now blocks.now) }
+    ensures { OnOk result (figures.new.items ≡ figures.old.items
+        ++ block_figures name.now expected.now blocks.now) }
 {
     for i in 0..expected.len().max(blocks.len()) {
         figures.push(block_figure(heap, name, expected, blocks, i)?)?;
@@ -83,7 +85,11 @@ impl Case {
         expected: Answer,
         computed: Answer,
     ) -> Result<Figure, AllocError>
-        ensures { IfOk result (λ f. f ≡ record { what = self.now.what.now ++ what.now; expected = told expected; computed = told computed }) }
+        ensures { IfOk result (λ f. f ≡ record {
+          what = self.now.what.now ++ what.now;
+          expected = told expected;
+          computed = told computed;
+        }) }
     {
         let name = self.what;
         let what = format!(in heap; "{name}{what}")?;
@@ -99,7 +105,8 @@ impl Case {
         expected: u64,
         computed: u64,
     ) -> Result<(), AllocError>
-        ensures { OnOk result (figures.new.items ≡ figures.old.items ++ figure_of self.now what.now (pos expected) (pos computed) ∷ []) }
+        ensures { OnOk result (figures.new.items ≡ figures.old.items
+            ++ figure_of self.now what.now (pos expected) (pos computed) ∷ []) }
     {
         let expected = Answer::natural(Some(expected));
         let computed = Answer::natural(Some(computed));
@@ -114,7 +121,9 @@ impl Case {
         figures: &mut Vec<Figure>,
         energy: OutOfMerit,
     ) -> Result<(), AllocError>
-        ensures { OnOk result (figures.new.items ≡ figures.old.items ++ figure_of self.now (codes ", out of merit") self.now.out_of_merit (directed energy) ∷ []) }
+        ensures { OnOk result (figures.new.items ≡ figures.old.items
+            ++ figure_of self.now (codes ", out of merit") self.now.out_of_merit
+            (directed energy) ∷ []) }
     {
         let expected = Answer::signed(Some(self.out_of_merit));
         let computed = Answer::out_of_merit(energy);
@@ -131,7 +140,8 @@ impl Case {
         station: &Station,
         price: BalancingPrice,
     ) -> Result<(), AllocError>
-        ensures { OnOk result (figures.new.items ≡ figures.old.items ++ schedule_figures self.now (operation station.now) price.cents) }
+        ensures { OnOk result (figures.new.items ≡ figures.old.items
+            ++ schedule_figures self.now (operation station.now) (price_cents price)) }
     {
         let upper = station.upper(price);
         let lower = station.lower(price);
@@ -150,7 +160,8 @@ impl Case {
         station: &Station,
         price: BalancingPrice,
     ) -> Result<(), AllocError>
-        ensures { OnOk result (figures.new.items ≡ figures.old.items ++ payment_figures self.now (operation station.now) price.cents) }
+        ensures { OnOk result (figures.new.items ≡ figures.old.items
+            ++ payment_figures self.now (operation station.now) (price_cents price)) }
     {
         let rest = station.blocks(price).rest;
         let cents = cents_of(station.part(price));
@@ -167,7 +178,8 @@ impl Case {
         station: &Station,
         price: BalancingPrice,
     ) -> Result<(), AllocError>
-        ensures { OnOk result (figures.new.items ≡ figures.old.items ++ figures_at_work self.now (operation station.now) price.cents) }
+        ensures { OnOk result (figures.new.items ≡ figures.old.items
+            ++ figures_at_work self.now (operation station.now) (price_cents price)) }
     {
         self.push_schedules(heap, figures, station, price)?;
         let blocks = station.blocks(price);
