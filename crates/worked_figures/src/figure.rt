@@ -1,5 +1,5 @@
 // A figure: what it is of, what it should be, and what it came to.
-ghost use Rattle.std.specs.Prelude.{◌≡◌, string_bytes};
+ghost use Rattle.std.specs.Prelude.{◌≡◌, ◌↔◌, IsTrue, string_bytes};
 ghost use Rattle.worked_figures.specs.Answers.{told};
 ghost use Rattle.worked_figures.specs.Reports.{Shown, is_equal};
 
@@ -57,8 +57,10 @@ impl Figure {
         &self.computed
     }
 
+    // Whether it came to what it should be.
     pub fn is_equal(&self) -> bool
-        ensures { result ≡ is_equal self.now }
+        ensures value { result ≡ is_equal self.now }
+        ensures exactly { IsTrue result ↔ (self.now.expected ≡ self.now.computed) }
     {
         self.expected.is_same(&self.computed)
     }
