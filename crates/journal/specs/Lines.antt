@@ -41,7 +41,8 @@ Running zs ls = (a : ℕ) → a < 12 → slice_index_or zs a (pos 0) ≡ line_su
 abbrev pub Spans : List Line → Type 0
 Spans ls = (a : ℕ) → a < 12 → InSpan (line_sum a ls)
 
--- a journal keeps the spans of a ledger. It stands here since a law of an impl can cite no proof of its own crate.
+-- A journal keeps the spans of a ledger. It stands here since a law of an impl can cite no proof of
+-- its own crate.
 pub journal_sound : (memory : List Line) (used : ℕ) → Spans (take used memory) → Sound (journal_view memory used)
 journal_sound memory used spans = record {
   some = lit≤ tt;

@@ -9,9 +9,10 @@ use crate::reason::Reason;
 // No figure of a ledger lies further from zero than this, in cents.
 pub const MOST: i64 = 1_000_000_000_000_000;
 
-// That end of the span of money; its promise ties the constant to the span that a ledger keeps.
+// That end of the span of money, which is the one that a ledger keeps.
 pub fn end_of_span() -> i64
-    ensures { result ≡ most }
+    ensures tied { MOST ≡ most }
+    ensures value { result ≡ most }
 {
     MOST
 }
@@ -55,7 +56,8 @@ pub trait Ledger: Accounts {
     ghost more: { (x y z : Self) (ps qs : List Post) →
         took x ps y → took y qs z → took x (ps ++ qs) z };
 
-    // Adds the cents to the account's balance, or refuses for the first reason that holds and changes nothing.
+    // Adds the cents to the account's balance; or refuses for the first reason that holds, and then
+    // nothing that is seen has changed.
     // Kept: account and cents are all that a post is told; a struct of the two would be taken apart at once.
     fn post(&mut self, account: usize, cents: i64) -> Result<(), Reason>
         ensures answered { Answered (Self.view self.old) account cents result (Self.view self.new) }

@@ -29,7 +29,8 @@ figures k (b ∷ bs) = told k b then figures (k + 1) bs
 
 -- where the check passes, a value of which P holds; else the refusal that the check tells
 abbrev pub Passes : {X : Type 0} → Check → (X → Type 0) → Result X Refusal → Type 0
-Passes check P result = MatchResult result (λ x. (check ≡ Ok tt) × P x) (λ refusal. check ≡ Err refusal)
+Passes check P result =
+    MatchResult result (λ x. (check ≡ Ok tt) × P x) (λ refusal. check ≡ Err refusal)
 
 -- the place in a list of what has a number from 1
 abbrev pub IsPlaceOf : {X : Type 0} → List X → ℕ → ℕ → Type 0

@@ -2,3 +2,4 @@ pub mod Lists
 pub mod Registers
 pub mod Blank
 pub mod Sheets
+pub mod States

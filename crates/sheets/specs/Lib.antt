@@ -4,3 +4,4 @@ pub mod Sheets
 pub mod Held
 pub mod Shown
 pub mod Changes
+pub mod Claims

@@ -1,6 +1,7 @@
 // One thing of a sheet changed by value. Nothing is answered where the sheet would not take the change.
 // Kept: the changes have one form, but each its own test, field and contract; one function with closures would state a contract over each.
-ghost use Rattle.std.specs.Prelude.{◌≡◌};
+ghost use Rattle.std.specs.Prelude.{◌≡◌, ◌≢◌, IsTrue, is_some};
+ghost use Rattle.sheets.specs.declared.row.State.TheVariants.{Settled};
 ghost use Rattle.sheets.specs.declared.row.Event.TheVariants.{Close, Settle};
 ghost use Rattle.sheets.specs.Sheets.{next, with_submission, with_start, with_reading, with_demand, with_position, row_after};
 ghost use Rattle.sheets.specs.Changes.{Becomes, comes, takes_submission, takes_start, takes_reading, takes_demand, takes_position, may_close, may_settle};
@@ -49,8 +50,9 @@ impl<'a> Sheet<'a> {
 
     // Another start level of the facility at a place, in kW, until the sheet is settled.
     pub fn with_start(self, at: usize, kw: u32) -> Option<Sheet<'a>>
-        ensures { Becomes (takes_start (register_of self.entry) (row_of self.entry) at kw)
+        ensures taken { Becomes (takes_start (register_of self.entry) (row_of self.entry) at kw)
             (register_of self.entry) (with_start (row_of self.entry) at kw) result }
+        ensures unsettled { IsTrue (is_some result) → (row_of self.entry).state ≢ Settled }
     {
         let registered = at < self.register.facilities().len();
         if !self.comes(Event::Figure) || !registered || !start_fits(Some(kw)) {
