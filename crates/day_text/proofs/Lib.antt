@@ -1,3 +1,1 @@
 pub mod Wording
-pub mod Laying
-pub mod Sizes

@@ -1,3 +1,5 @@
 pub mod Keywords
+pub mod Faults
 pub mod Words
+pub mod Signs
 pub mod Lines

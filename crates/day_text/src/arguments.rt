@@ -1,10 +1,12 @@
-// Each line by the words after its keyword.
+//! Each line by the words after its keyword.
 ghost use Rattle.std.specs.Prelude.{◌≡◌};
-ghost use Rattle.std.specs.Option.{option_map};
-ghost use Rattle.day_text.specs.Lines.{sheets_of, limit_of, journal_of, print_of, register_of, open_of, targeted, position_of, demand_of, interval_of, offer_of, plain_of};
+ghost use Rattle.std.specs.Result.{result_map_both as mapped_both};
+ghost use Rattle.day_text.specs.Lines.{sheets_of, limit_of, journal_of, print_of, register_of, open_of, targeted, position_of, demand_of, interval_of, lodge_of, arguments_of};
 
-use crate::keyword::{Keyword, keyword_of};
+use crate::fault::WordFault;
+use crate::keyword::Keyword;
 use crate::line::DayLine;
+use crate::pairs::only_pairs;
 use crate::words::Words;
 
 // Of whom and when a line speaks, and the figure that it gives.
@@ -15,49 +17,40 @@ pub struct Target {
     pub figure: u32,
 }
 
-// A lodge before its pairs.
-// Kept: `submission_text` has the same four figures in its `Head`; neither crate builds on the other, and `offers` below both knows no facilities or intervals.
-#[derive(Clone, Copy)]
-pub struct Offer {
-    pub facility: u32,
-    pub interval: u32,
-    pub ramp_up: u32,
-    pub ramp_down: u32,
-}
-
-fn sheets(mut words: Words) -> Option<DayLine>
+fn sheets(mut words: Words) -> Result<DayLine, WordFault>
     ensures { result ≡ sheets_of words.entry }
 {
     let count = words.number(1, 48)?;
     words.end(DayLine::Sheets { count })
 }
 
-fn limit(mut words: Words) -> Option<DayLine>
+fn limit(mut words: Words) -> Result<DayLine, WordFault>
     ensures { result ≡ limit_of words.entry }
 {
-    let account = words.number(0, 63)?;
+    let account = words.read()?;
     let cents = words.read()?;
     words.end(DayLine::Limit { account, cents })
 }
 
-fn journal(mut words: Words) -> Option<DayLine>
+fn journal(mut words: Words) -> Result<DayLine, WordFault>
     ensures { result ≡ journal_of words.entry }
 {
-    words.past(b"journal")?;
+    words.past_journal()?;
     let lines = words.number(0, 1_000_000)?;
     words.end(DayLine::Journal { lines })
 }
 
-fn print(mut words: Words) -> Option<DayLine>
+fn print(mut words: Words) -> Result<DayLine, WordFault>
     ensures { result ≡ print_of words.entry }
 {
-    words.past(b"journal")?;
+    words.past_journal()?;
     words.end(DayLine::PrintJournal)
 }
 
-// Kept: this and `position`, as `open` and `demand`, read as many words, but not the same kinds of number; one function for both
-// would be generic over each word, and take a closure that names the fields a second time.
-fn register(mut words: Words) -> Option<DayLine>
+// Kept: this and `position`, as `open` and `demand`, read as many words, but not the same kinds of
+// number; one function for both would be generic over each word, and take a closure that names the
+// fields a second time.
+fn register(mut words: Words) -> Result<DayLine, WordFault>
     ensures { result ≡ register_of words.entry }
 {
     let line = DayLine::Register {
@@ -69,7 +62,7 @@ fn register(mut words: Words) -> Option<DayLine>
     words.end(line)
 }
 
-fn open(mut words: Words) -> Option<DayLine>
+fn open(mut words: Words) -> Result<DayLine, WordFault>
     ensures { result ≡ open_of words.entry }
 {
     let low = words.read()?;
@@ -78,7 +71,7 @@ fn open(mut words: Words) -> Option<DayLine>
 }
 
 // A facility, an interval and a figure, and no other word.
-fn targeted(mut words: Words) -> Option<Target>
+fn targeted(mut words: Words) -> Result<Target, WordFault>
     ensures { result ≡ targeted words.entry }
 {
     let target = Target {
@@ -89,7 +82,7 @@ fn targeted(mut words: Words) -> Option<Target>
     words.end(target)
 }
 
-fn position(mut words: Words) -> Option<DayLine>
+fn position(mut words: Words) -> Result<DayLine, WordFault>
     ensures { result ≡ position_of words.entry }
 {
     let line = DayLine::Position {
@@ -101,7 +94,7 @@ fn position(mut words: Words) -> Option<DayLine>
     words.end(line)
 }
 
-fn demand(mut words: Words) -> Option<DayLine>
+fn demand(mut words: Words) -> Result<DayLine, WordFault>
     ensures { result ≡ demand_of words.entry }
 {
     let interval = words.read()?;
@@ -110,36 +103,39 @@ fn demand(mut words: Words) -> Option<DayLine>
 }
 
 // An interval, and no other word.
-fn interval(mut words: Words) -> Option<u32>
+fn interval(mut words: Words) -> Result<u32, WordFault>
     ensures { result ≡ interval_of words.entry }
 {
     let interval = words.read()?;
     words.end(interval)
 }
 
-// Facility, interval and ramps of a lodge.
-pub fn read_offer(words: &mut Words) -> Option<Offer>
-    ensures { option_map (λ x. (x, words.new)) result ≡ offer_of words.old }
+// Facility, interval and ramps of a lodge, and then pairs alone.
+fn lodge(mut words: Words) -> Result<DayLine, WordFault>
+    ensures { result ≡ lodge_of words.entry }
 {
-    Some(Offer {
+    let line = DayLine::Lodge {
         facility: words.read()?,
         interval: words.read()?,
         ramp_up: words.read()?,
         ramp_down: words.read()?,
-    })
+    };
+    only_pairs(words)?;
+    Ok(line)
 }
 
-// A line other than a lodge.
-pub fn plain(word: &[u8], words: Words) -> Option<DayLine>
-    ensures { result ≡ plain_of word.now words.entry }
+// The line of the keyword with the words after it.
+pub fn arguments(keyword: Keyword, words: Words) -> Result<DayLine, WordFault>
+    ensures { result ≡ arguments_of keyword words.entry }
 {
     // Kept: one arm a keyword says which form each line has; a table of closures would say no more.
-    match keyword_of(word)? {
+    match keyword {
         Keyword::Sheets => sheets(words),
         Keyword::Limit => limit(words),
         Keyword::Ledger => journal(words),
         Keyword::Register => register(words),
         Keyword::Open => open(words),
+        Keyword::Lodge => lodge(words),
         Keyword::Start => targeted(words).map(|t| DayLine::Start {
             facility: t.facility,
             interval: t.interval,

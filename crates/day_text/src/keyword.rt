@@ -1,24 +1,67 @@
-// The first word of a line, which says what the line is; `lodge`, which has pairs, is told apart before.
-ghost use Rattle.std.specs.Prelude.{◌≡◌};
-ghost use Rattle.day_text.specs.Keywords.{keyword_of};
+//! The first word of a line, which says what the line is.
+ghost use Rattle.std.specs.Prelude.{◌≡◌, Some};
+ghost use Rattle.day_text.specs.Keywords.{keyword_of, form_of};
 
-#[derive(Clone, Copy)]
+use std::fmt;
+
+/// What a line begins with. Written out, it is the form of the whole line, with a name for each
+/// word that changes.
+#[derive(Clone, Copy, PartialEq, Eq, Debug)]
 pub enum Keyword {
+    /// `sheets`, how many sheets the day has.
     Sheets,
+    /// `limit`, the credit limit of an account.
     Limit,
+    /// `ledger`, that the ledger is a journal.
     Ledger,
+    /// `register`, a call.
     Register,
+    /// `open`, a call.
     Open,
+    /// `lodge`, a call with any number of pairs.
+    Lodge,
+    /// `start`, a call.
     Start,
+    /// `reading`, a call.
     Reading,
+    /// `position`, a call.
     Position,
+    /// `demand`, a call.
     Demand,
+    /// `close`, a call.
     Close,
+    /// `settle`, a call.
     Settle,
+    /// `adjust`, a call.
     Adjust,
+    /// `print`, that the journal is printed.
     Print,
 }
 
+impl fmt::Display for Keyword {
+    ghost output = { λ keyword. Some (form_of keyword) };
+
+    fn fmt<W: fmt::Write>(&self, f: &mut fmt::Formatter<W>) -> fmt::Result {
+        f.write_str(match *self {
+            Keyword::Sheets => "sheets N",
+            Keyword::Limit => "limit ACCOUNT CENTS",
+            Keyword::Ledger => "ledger journal LINES",
+            Keyword::Register => "register ACCOUNT LOSSFACTOR CAPACITY TOLERANCE",
+            Keyword::Open => "open LOW HIGH",
+            Keyword::Lodge => "lodge FACILITY INTERVAL RAMPUP RAMPDOWN PRICE:KW ...",
+            Keyword::Start => "start FACILITY INTERVAL KW",
+            Keyword::Reading => "reading FACILITY INTERVAL KWMIN",
+            Keyword::Position => "position ACCOUNT INTERVAL CONTRACT LOAD",
+            Keyword::Demand => "demand INTERVAL KW",
+            Keyword::Close => "close INTERVAL",
+            Keyword::Settle => "settle INTERVAL",
+            Keyword::Adjust => "adjust FACILITY INTERVAL KWMIN",
+            Keyword::Print => "print journal",
+        })
+    }
+}
+
+/// The keyword that a word is, if it is one.
 pub fn keyword_of(word: &[u8]) -> Option<Keyword>
     ensures { result ≡ keyword_of word.now }
 {
@@ -28,6 +71,7 @@ pub fn keyword_of(word: &[u8]) -> Option<Keyword>
         b"ledger" => Some(Keyword::Ledger),
         b"register" => Some(Keyword::Register),
         b"open" => Some(Keyword::Open),
+        b"lodge" => Some(Keyword::Lodge),
         b"start" => Some(Keyword::Start),
         b"reading" => Some(Keyword::Reading),
         b"position" => Some(Keyword::Position),

@@ -1,9 +1,11 @@
-// The text of a day file: what each of its lines says.
+//! The text of a day file: what each of its lines says, or what is wrong with it.
 #![tactic(auto)]
 
 mod arguments;
-mod keyword;
+pub mod fault;
+pub mod keyword;
 pub mod line;
-mod pairs;
+pub mod pairs;
 pub mod parse;
+mod signs;
 mod words;

@@ -1,17 +1,21 @@
-// The pairs of a lodge: counted first, so that memory is written only where all of them are pairs and fit.
-ghost use Rattle.std.specs.Prelude.{◌≡◌, length, Some};
-ghost use Rattle.day_text.specs.Words.{all_pairs, counted, fitting, or_none};
-ghost use Rattle.day_text.specs.Lines.{laid};
+//! The pairs of a lodge.
+ghost use Rattle.std.specs.Prelude.{◌≡◌, IfOk, drop};
+ghost use Rattle.day_text.specs.Words.{words, pairs_from};
+ghost use Rattle.day_text.specs.Lines.{pairs_of as pairs_of_spec};
 
+use crate::fault::WordFault;
 use crate::words::{FromWord, Words};
 use offers::pair::Pair;
+use std::alloc::{AllocError, Global};
 use text::line::cut;
 
 // A word `price:kW`.
 impl FromWord for Pair {
-    ghost use Rattle.day_text.specs.Words.{pair_of};
+    ghost use Rattle.day_text.specs.Words.{pair_of, no_pair};
 
     ghost from_word = { pair_of };
+
+    ghost wrong = { no_pair };
 
     fn from_word(word: &[u8]) -> Option<Pair> {
         let (price, kw) = cut(word, b':');
@@ -19,39 +23,44 @@ impl FromWord for Pair {
         let kw = u32::from_word(kw?)?;
         Some(Pair { price, kw })
     }
-}
 
-// How many pairs the words are, if all of them are pairs and there is room for so many.
-fn count_pairs(mut words: Words, room: usize) -> Option<usize>
-    ensures { result ≡ fitting room (counted words.entry) }
-{
-    // Kept: the words are no iterator; the range counts them and stops one past the room.
-    for n in 0..=room {
-        let Some(word) = words.next() else {
-            return Some(n);
-        };
-        Pair::from_word(word)?;
-    }
-    None
-}
-
-// Writes as many pairs as there is memory.
-fn fill(mut words: Words, out: &mut [Pair])
-    requires { counted words ≡ Some (length out.old) }
-    ensures { Some out.new ≡ all_pairs words.entry }
-{
-    for slot in out.iter_mut() {
-        *slot = words.read().unwrap();
+    fn wrong(word: usize) -> WordFault {
+        WordFault::NoPair { word }
     }
 }
 
-// Kept: lent memory, so the count is answered and the front is the caller's to cut.
-// The words as pairs at the front of the memory, and how many; else it is as it was.
-pub fn read_pairs(words: Words, memory: &mut [Pair]) -> Option<usize>
-    ensures value { result ≡ fitting (length memory.old) (counted words.entry) }
-    ensures after { memory.new ≡ laid memory.old (or_none (all_pairs words.entry)) }
+// The first of the words that is no pair is told.
+pub fn only_pairs(mut words: Words) -> Result<(), WordFault>
+    ensures { result ≡ pairs_from words.entry.passed words.entry.left }
 {
-    let n = count_pairs(words.again(), memory.len())?;
-    fill(words, &mut memory[0..n]);
-    Some(n)
+    while let Some(word) = words.next() {
+        words.says::<Pair>(word)?;
+    }
+    Ok(())
+}
+
+// The words behind the keyword and four more.
+fn after_ramps(line: &[u8]) -> Words
+    ensures { result.left ≡ drop 5 (words line.now).left }
+{
+    let mut words = Words::of(line);
+    for _ in 0..5usize {
+        words.next();
+    }
+    words
+}
+
+/// The pairs of a lodge, in their order: what stands behind its ramps and is a pair. Of a line that
+/// was read as a lodge that is all that stands there.
+pub fn pairs_of(heap: Global, line: &[u8]) -> Result<Vec<Pair>, AllocError>
+    ensures { IfOk result (λ pairs. pairs.items ≡ pairs_of_spec line.now) }
+{
+    let mut pairs = Vec::new(heap);
+    let mut words = after_ramps(line);
+    while let Some(word) = words.next() {
+        if let Some(pair) = Pair::from_word(word) {
+            pairs.push(pair)?;
+        }
+    }
+    Ok(pairs)
 }
