@@ -1,4 +1,4 @@
-// The amounts of one account on a sheet at a price.
+//! The amounts of one account on a sheet at a price.
 ghost use Rattle.std.specs.Prelude.{◌≡◌, ◌≤◌, unsigned_abs};
 ghost use Rattle.schedule.specs.Levies as levies;
 ghost use Rattle.amounts.specs.Amounts as amounts;
@@ -10,25 +10,31 @@ use schedule::span::BalancingPrice;
 use sheets::row::Position;
 use sheets::sheet::Sheet;
 
-// One of the accounts 1 to 11, by its number.
+/// One of the accounts 1 to 11.
 #[derive(Clone, Copy)]
 pub struct Account {
+    /// Its number, 1 to 11.
     pub number: u32,
     ghost least: { 1 ≤ number },
     ghost most: { number ≤ 11 },
 }
 
-// A sheet at a price.
+/// A sheet at a price.
 #[derive(Clone, Copy)]
 pub struct AtPrice<'a> {
+    /// The sheet whose accounts are reckoned.
     pub sheet: &'a Sheet<'a>,
+    /// The price that holds on it, in cents per MWh, -125,000 to 125,000.
     pub price: BalancingPrice,
 }
 
-// An account's energy amount and compensation, in cents.
+/// The energy amount and the compensation of an account.
 #[derive(Clone, Copy)]
 pub struct Amounts {
+    /// The energy amount in cents; that of an account at a price is -1,250,000,000 to
+    /// 1,250,000,000.
     pub energy: i64,
+    /// The compensation in cents; that of an account at a price is 0 to 1,875,000,000.
     pub compensation: u64,
 }
 
@@ -60,6 +66,7 @@ impl<'a> AtPrice<'a> {
         cents_of(owed(self, account))
     }
 
+    /// The energy amount and the compensation of an account, in cents.
     pub fn amounts(self, account: Account) -> Amounts
         ensures energy { result.energy ≡ amounts.energy_amount (held self.entry) account.number }
         ensures compensation { result.compensation ≡ amounts.compensation (held self.entry) account.number }
@@ -73,14 +80,15 @@ impl<'a> AtPrice<'a> {
     }
 }
 
-// The loads of accounts 1 to 11.
+/// The loads of accounts 1 to 11, in kWmin.
 pub fn loads_of(positions: [Position; 11]) -> [u32; 11]
     ensures { result ≡ amounts.loads positions }
 {
     positions.map(|position| position.load)
 }
 
-// What an account's load bears of the total; nothing where nobody has a load.
+/// What an account's load bears of a total in cents: its levy, at most the total. The loads are
+/// those of accounts 1 to 11 in kWmin; where nobody has a load the levy is 0.
 pub fn levied(total: u64, loads: &[u32; 11], account: Account) -> u64
     ensures value { result ≡ levies.levy total loads.now account.number }
     ensures bound { result ≤ total }

@@ -1,4 +1,4 @@
-// What one facility on a sheet metered and is owed, and the sums over an account's facilities.
+//! What one facility on a sheet metered and is owed, and the sums over an account's facilities.
 ghost use Rattle.std.specs.Prelude.{◌≡◌, ◌≤◌, ℕ, true};
 ghost use Rattle.schedule.specs.Shown.{price_cents};
 ghost use Rattle.merit.specs.Held.{facilities_in, figures_in};
@@ -57,8 +57,8 @@ fn sum_over<F: Fn(Standing) -> u64>(sheet: &Sheet, account: Account, count: F) -
         SumOver e most account.number sheet.now result }
 {
     let mut sum = 0;
-    // Kept: a `Standing` is made by what the sheet states of the place, and the sum fits by the number of facilities; a chain
-    // would need both told again of its closures.
+    // Kept: a `Standing` is made by what the sheet states of the place, and the sum fits by the
+    // number of facilities; a chain would need both told again of its closures.
     for (facility, figures) in sheet.facilities().iter().zip(sheet.figures()) {
         let standing = Standing {
             facility: *facility,
@@ -71,7 +71,8 @@ fn sum_over<F: Fn(Standing) -> u64>(sheet: &Sheet, account: Account, count: F) -
     sum
 }
 
-// Reading × loss factor, over the account's facilities.
+/// Reading × loss factor, summed over the account's facilities, in ten-thousandths of a kWmin; a
+/// facility without a reading counts 0. It is 0 to 4,500,000,000,000.
 pub fn metered(sheet: &Sheet, account: Account) -> u64
     ensures value { result ≡ sum_of metered account.number (facilities_in sheet.now)
         (figures_in sheet.now) }
@@ -80,7 +81,8 @@ pub fn metered(sheet: &Sheet, account: Account) -> u64
     sum_over(sheet, account, |standing| standing.metered())
 }
 
-// What the account's facilities are owed, unrounded.
+/// What the account's facilities are owed together, unrounded: 600,000,000 of it are one cent. It
+/// is 0 to 1,125,000,000,000,000,000.
 pub fn owed(at: AtPrice, account: Account) -> u64
     ensures value { result ≡ sum_of (own_part (price_cents at.entry.price)) account.number
         (facilities_in at.entry.sheet.now) (figures_in at.entry.sheet.now) }

@@ -1,4 +1,5 @@
-// What a sheet at its balancing price owes and is owed: the amounts of its accounts, and the twelve nets.
+//! What a sheet at its balancing price owes and is owed: the amounts of its accounts, and the
+//! twelve nets.
 #![tactic(auto)]
 
 mod account;

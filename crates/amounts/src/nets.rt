@@ -1,4 +1,4 @@
-// The twelve nets of a sheet, and what a corrected sheet changes of them.
+//! The twelve nets of a sheet, and what a corrected sheet changes of them.
 ghost use Rattle.std.specs.Prelude.{◌≡◌, ◌<◌, ◌≤◌, true, ℕ, ℤ, pos, ◌+ℤ◌, ◌-ℤ◌, unsigned_abs, slice_index_or};
 ghost use Rattle.std.specs.List.{AllByRecursion};
 ghost use Rattle.ledger.specs.Sums.{row_sum};
@@ -33,7 +33,9 @@ fn tally_up(at: AtPrice) -> Tally
     }; 12];
     let mut pool = 0;
     let mut total = 0;
-    // Kept: an invariant of a loop over `zip(&mut each[1..])` cannot name `each`; and `-each.iter().map(|a| a.energy).sum::<i64>()` left `sum-requires-clause-fits` and `overflow_sub-result` open.
+    // Kept: an invariant of a loop over `zip(&mut each[1..])` cannot name `each`; and
+    // `-each.iter().map(|a| a.energy).sum::<i64>()` left `sum-requires-clause-fits` and
+    // `overflow_sub-result` open.
     for number in 1..12 {
         let amounts = at.amounts(Account {
             number: number as u32,
@@ -93,7 +95,9 @@ fn nets_at(at: AtPrice) -> [i64; 12]
     )
 }
 
-// The nets of the pool and of accounts 1 to 11, at the sheet's balancing price. Nothing where it has none: on no closed or settled sheet.
+/// The nets of the pool and of accounts 1 to 11 in cents, by account from 0, at the sheet's
+/// balancing price. `None` where the sheet has no price, since it has no demand or its offers do
+/// not reach it; a closed or settled sheet has one.
 pub fn nets(sheet: &Sheet) -> Option<[i64; 12]>
     ensures { Nets sheet.now result }
 {
@@ -127,8 +131,10 @@ fn changes_at(price: BalancingPrice, new: &Sheet, old: &Sheet) -> [i64; 12]
     less(&nets, &were)
 }
 
-// The sheet with another reading, in kWmin, of the facility at a place, and what that changes of its nets: new less old, by account.
-// Nothing where there is no such facility, the reading lies outside its span, or the sheet has no price.
+/// The sheet with another reading of the facility at a place, and what that changes of its nets:
+/// new less old, in cents, by account from 0. The place counts from 0, the reading is 0 to
+/// 30,000,000 kWmin. `None` where there is no such facility, the reading lies outside its span, or
+/// the sheet has no price.
 pub fn correction<'a>(sheet: Sheet<'a>, at: usize, kwmin: u32) -> Option<(Sheet<'a>, [i64; 12])>
     ensures { Corrects sheet.entry at kwmin result }
 {

@@ -1,4 +1,4 @@
-// The sheet worked through: its nets, and what another reading changes of them.
+//! The sheet worked through: its nets, and what another reading changes of them.
 use crate::nets::{correction, nets};
 use offers::curve::Curve;
 use offers::pair::Pair;
@@ -9,7 +9,9 @@ use sheets::row::{Figures, Row, State};
 use sheets::sheet::Sheet;
 use std::test::Fail;
 
-// Kept: a station and a pair in few words, as the tests of `merit` have them; they share no crate of tests.
+// A station of an account, as it is registered.
+// Kept: a station, and below a pair, in few words, as the tests of `merit` have them too; the tests
+// of the two crates share no crate of their own.
 fn station(account: u32) -> Facility {
     Facility {
         account,

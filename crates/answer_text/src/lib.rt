@@ -1,5 +1,6 @@
-// The text of what a day's calls answer, line by line.
-// Kept: pieces pushed into a draft, since these lines cannot fail; a `Display` may answer an error, by its type.
+//! The text of what a day's calls answer, line by line.
+// Kept: pieces pushed into a draft, since these lines cannot fail; a `Display` may answer an error,
+// by its type.
 #![tactic(auto)]
 
 ghost use Rattle.std.specs.Prelude.{◌≡◌, ◌+◌, ◌≤◌, ◌++◌, length, decimal};
@@ -48,7 +49,8 @@ fn push_reason(draft: &mut Draft, reason: Option<Reason>)
     ensures after { draft.new ≡ kept (draft.old ++ reason_words reason) }
     ensures short { length (reason_words reason) ≤ 28 }
 {
-    // Kept: where there is none an empty piece is pushed, which tells that the draft keeps what it held.
+    // Kept: where there is none an empty piece is pushed, which tells that the draft keeps what it
+    // held.
     match reason {
         Some(reason) => push_figure(draft, b" reason=", reason.number() as u64),
         None => draft.push(b""),
@@ -74,7 +76,7 @@ fn push_result(draft: &mut Draft, res: Result<Answer, Refusal>)
     }
 }
 
-// The line that answers the call on a line of the day file.
+/// The line that answers the call on a line of the day file. `line` is that line's number, from 1.
 pub fn answer_line(line: u64, res: Result<Answer, Refusal>) -> Draft
     ensures { result ≡ answered line res }
 {
@@ -86,7 +88,7 @@ pub fn answer_line(line: u64, res: Result<Answer, Refusal>) -> Draft
     draft
 }
 
-// The same for a line that is not a call.
+/// The line that answers a line of the day file that is not a call. `line` is its number, from 1.
 pub fn not_a_call(line: u64) -> Draft
     ensures { result ≡ not_answered line }
 {
@@ -96,7 +98,8 @@ pub fn not_a_call(line: u64) -> Draft
     draft
 }
 
-// A line of the journal: its number, the account, and what was posted to it.
+/// The line that tells a line of the journal: its number from 1, the account from 0, and what was
+/// posted to it in cents.
 pub fn journal_line(line: usize, account: u32, cents: i64) -> Draft
     ensures { result ≡ journal_text line account cents }
 {
@@ -109,7 +112,7 @@ pub fn journal_line(line: usize, account: u32, cents: i64) -> Draft
     draft
 }
 
-// The line of an account and its balance.
+/// The line that tells an account, from 0, and its balance in cents.
 pub fn balance_line(account: usize, cents: i64) -> Draft
     ensures { result ≡ balance_text account cents }
 {
@@ -121,7 +124,7 @@ pub fn balance_line(account: usize, cents: i64) -> Draft
     draft
 }
 
-// The line of the sum of all balances.
+/// The line that tells the sum of all balances, in cents.
 pub fn sum_line(cents: i64) -> Draft
     ensures { result ≡ sum_text cents }
 {

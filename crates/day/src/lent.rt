@@ -1,4 +1,4 @@
-// Any list of calls, with their answers in lent memory.
+//! Any list of calls, with their answers in lent memory.
 ghost use Rattle.std.specs.Prelude.{◌≡◌, ◌≤◌, ◌↔◌, length, take, drop, IsOk, OnOk, OnErr, IfErr};
 ghost use Rattle.pool.specs.Held.{held};
 ghost use Rattle.day.specs.Book.{blank, told};
@@ -11,14 +11,16 @@ use refusals::Refusal;
 use sheets::register::Register;
 use sheets::row::Row;
 
-// The memory is shorter than the list of calls, which needs this length.
+/// The memory is shorter than the list of calls.
 #[derive(Clone, Copy, PartialEq, Eq, Debug)]
 pub struct AnswersTooShort {
+    /// How many answers it must hold: as many as there are calls.
     pub needed: usize,
 }
 
-// Makes the calls one after the other. Their answers stand in front, and what is behind them stays. For want of memory, which
-// is found before the first call, nothing is done.
+/// Makes the calls one after the other. Their answers stand at the front of the lent memory, and
+/// what is behind them stays. An error means that it is shorter than the list of calls, which is
+/// found before the first call; then nothing is done.
 pub fn make_all<L: Ledger>(
     register: &mut Register,
     sheets: &mut [Row],

@@ -1,4 +1,4 @@
-// A whole day: any list of calls on a register, sheets and a ledger, and the law that it follows.
+//! A whole day: any list of calls on a register, sheets and a ledger, and the law that it follows.
 #![tactic(auto)]
 
 pub mod claims;

@@ -1,4 +1,4 @@
-// Any list of calls, with their answers in memory of their own.
+//! Any list of calls, with their answers in memory of their own.
 ghost use Rattle.std.specs.Prelude.{◌≡◌, length, IfOk, OnErr};
 ghost use Rattle.pool.specs.Held.{held};
 ghost use Rattle.day.specs.Book.{blank, told};
@@ -13,8 +13,8 @@ use sheets::register::Register;
 use sheets::row::Row;
 use std::alloc::{AllocError, Global};
 
-// Makes the calls one after the other, and answers what each was answered. For want of memory, which is found before the first
-// call, nothing is done.
+/// Makes the calls one after the other, and answers what each was answered. An error means that
+/// memory for the answers was wanting, which is found before the first call; then nothing is done.
 pub fn run<L: Ledger>(
     heap: Global,
     register: &mut Register,

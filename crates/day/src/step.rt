@@ -1,4 +1,4 @@
-// One call of a list.
+//! One call of a list.
 ghost use Rattle.ledger.specs.View.{View};
 ghost use Rattle.pool.specs.declared.call.Call.TheVariants as calls;
 ghost use Rattle.pool.specs.Day.{Does, made_posts};
@@ -37,7 +37,7 @@ fn close_with(
     })
 }
 
-// Makes the call.
+/// Makes the call, and answers what it answers. After a refusal nothing has changed.
 pub fn step<L: Ledger>(
     register: &mut Register,
     rows: &mut [Row],

@@ -1,4 +1,4 @@
-// A day from blank.
+//! A day from blank.
 ghost use Rattle.std.specs.Prelude.{◌≡◌, List, length, IfOk, Option, OnErr};
 ghost use Rattle.sheets.specs.declared.facility.Facility.{Facility};
 ghost use Rattle.sheets.specs.declared.facility.Prices.{Prices};
@@ -14,8 +14,9 @@ use sheets::register::Register;
 use sheets::row::Row;
 use std::alloc::{AllocError, Global};
 
-// The calls of a whole day, on sheets made blank and a register of its own. For want of memory, which is found before the sheets
-// are made blank, nothing is done.
+/// Makes the calls of a whole day, on sheets made blank and a register of its own, and answers what
+/// each was answered. An error means that memory for the answers was wanting, which is found before
+/// the sheets are made blank; then nothing is done.
 pub fn whole_day<L: Ledger>(
     heap: Global,
     sheets: &mut [Row],

@@ -1,4 +1,4 @@
-// Lists of calls on a blank day: what they answer, and what the ledger then holds.
+//! Lists of calls on a blank day: what they answer, and what the ledger then holds.
 #![tactic(auto)]
 
 #[cfg(test)]

@@ -1,4 +1,5 @@
-// A sheet worked by hand, alone and among others, on ledgers that take its nets and on ledgers that do not.
+//! A sheet worked by hand, alone and among others, on ledgers that take its nets and on ledgers
+//! that do not.
 mod long;
 mod singly;
 mod small;
@@ -21,7 +22,8 @@ use sheets::row::{Row, State};
 use std::alloc::{AllocError, Global};
 use std::test::*;
 
-// The balances after the worked sheet is settled, and after its first reading is corrected to 730,000.
+// The balances after the worked sheet is settled, and after its first reading is corrected to
+// 730,000.
 const SETTLED: [i64; 12] = [0, 50_667, 33_026, -83_693, 0, 0, 0, 0, 0, 0, 0, 0];
 
 const CORRECTED: [i64; 12] = [-2_000, 53_667, 32_949, -84_616, 0, 0, 0, 0, 0, 0, 0, 0];

@@ -1,4 +1,4 @@
-// Journals in memory of several lengths, alone and under a credit limit.
+//! Journals in memory of several lengths, alone and under a credit limit.
 #![tactic(auto)]
 
 use journal::journal::Journal;

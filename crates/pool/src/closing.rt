@@ -1,4 +1,4 @@
-// The call that closes a sheet at its balancing price.
+//! The call that closes a sheet at its balancing price.
 ghost use Rattle.std.specs.Prelude.{◌≡◌, ◌≤◌, length};
 ghost use Rattle.ledger.specs.View.{View};
 ghost use Rattle.sheets.specs.Changes as changes;
@@ -39,8 +39,14 @@ fn offers_reach(sheet: &Sheet, interval: u32) -> Result<(), Refusal>
     unless(reached, Refusal::Short(interval))
 }
 
-// Kept: the row by its place, as in `pool::figures`: after `get_mut` a proof knows the length alone.
-// Closes a sheet. It answers the balancing price and the marginal facility; the working rungs then hold the merit order.
+/// Closes an open sheet, and answers its balancing price in cents per MWh and the number of its
+/// marginal facility. `interval` is 1 to the number of rows, 48 at most; there must be 96 working
+/// rungs or more, which then hold the merit order from the front, and those beyond it are as they
+/// were. It is refused before the day is opened, for an interval without a sheet, where the sheet
+/// has no state or is not open, for fewer rungs, where there is no demand, and where all offers
+/// together are less than the demand; then nothing has changed, and the rungs neither.
+// Kept: the row is read and written by its place, since after `get_mut` a proof knows no more of
+// the rows than their number.
 pub fn close(
     register: &Register,
     rows: &mut [Row],

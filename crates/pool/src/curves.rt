@@ -1,4 +1,4 @@
-// What lodge makes of its ramps and pairs.
+//! What lodge makes of its ramps and pairs.
 ghost use Rattle.std.specs.Prelude.{◌≡◌, ◌≤◌, [], ◌∷◌, length, Ok, Err, MatchResult};
 ghost use Rattle.offers.specs.Curves.{total};
 ghost use Rattle.pool.specs.Checks.{figures, Passes};
@@ -12,6 +12,7 @@ use offers::submission::Submission;
 use refusals::Refusal;
 use sheets::facility::{Facility, Prices};
 
+/// Passes for at most 8 pairs, and else tells how many there are.
 pub(crate) fn not_too_many(pairs: &[Pair]) -> Result<(), Refusal>
     ensures { result ≡ few_pairs pairs.now }
 {
@@ -37,7 +38,9 @@ fn pairs_in_span(prices: Prices, pairs: &[Pair]) -> Result<(), Refusal>
     Ok(())
 }
 
-// The figures of a lodge: ramps, then pairs.
+/// The figures of a lodge, ramps and then pairs, pass where each is in its span: the ramps 1 to
+/// 1,000,000 kW per minute, a pair's price from the day's low to its high in cents per MWh, its kW
+/// 0 to 1,000,000. Else the position of the first that is not is told.
 pub(crate) fn lodge_in_span(
     prices: Prices,
     ramp_up: u32,
@@ -52,7 +55,8 @@ pub(crate) fn lodge_in_span(
     pairs_in_span(prices, pairs)
 }
 
-// The submission that ramps and pairs make, where the capacity holds it.
+/// The submission that ramps in kW per minute and pairs make, where the facility's capacity holds
+/// it. Where the curve's kW exceed the capacity, `number` is told, the facility's own.
 pub(crate) fn submission_of(
     facility: Facility,
     number: u32,
@@ -77,7 +81,7 @@ pub(crate) fn submission_of(
     })
 }
 
-// What lodging a submission in the place of another is called.
+/// What lodging a submission in the place of another is called.
 pub(crate) fn lodged_over(old: Option<Submission>, new: &Submission) -> Lodged
     ensures { result ≡ lodged old new.now }
 {

@@ -1,4 +1,4 @@
-// The calls of a day, each taken or refused by one table.
+//! The calls of a day, each taken or refused by one table.
 #![tactic(auto)]
 
 pub mod call;

@@ -1,4 +1,4 @@
-// The call that brings a submission.
+//! The call that brings a submission.
 ghost use Rattle.std.specs.Prelude.{◌≡◌};
 ghost use Rattle.ledger.specs.View.{View};
 ghost use Rattle.pool.specs.declared.call.Call.TheVariants as call;
@@ -14,8 +14,14 @@ use refusals::Refusal;
 use sheets::register::Register;
 use sheets::row::{Event, Row};
 
-// Kept: the row by its place, as in `pool::figures`: after `get_mut` a proof knows the length alone.
-// Keeps a facility's submission: ramps, and the curve of its pairs.
+/// Keeps a facility's submission, ramps and the curve of its pairs, and answers `Same` where both
+/// equal those in force, else `New`. `facility` is a registered number, `interval` 1 to the number
+/// of rows, 48 at most; the ramps are 1 to 1,000,000 kW per minute; there are at most 8 pairs, each
+/// of a price from the day's low to its high in cents per MWh, and 0 to 1,000,000 kW. It is refused
+/// before the day is opened, where the sheet has no state or is not open, for an argument outside
+/// these spans, and where the curve's kW exceed the capacity; then nothing has changed.
+// Kept: the row is read and written by its place, since after `get_mut` a proof knows no more of
+// the rows than their number.
 pub fn lodge(
     register: &Register,
     rows: &mut [Row],

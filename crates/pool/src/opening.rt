@@ -1,4 +1,4 @@
-// The calls before the day is open: register and open.
+//! The calls before the day is open: register and open.
 ghost use Rattle.std.specs.Prelude.{◌≡◌, List};
 ghost use Rattle.ledger.specs.View.{View};
 ghost use Rattle.sheets.specs.declared.row.Row.{Row};
@@ -23,7 +23,10 @@ fn facility_in_span(loss_factor: u32, capacity: u32, tolerance: u32) -> Result<(
     figure(3, tolerance <= 30_000_000)
 }
 
-// Registers a facility, and answers its number.
+/// Registers a facility, and answers its number. `account` is 1 to 11, `loss_factor` 8,000 to
+/// 12,500 ten-thousandths, `capacity` 1 to 1,000,000 kW and `tolerance` 0 to 30,000,000 kWmin. It
+/// is refused after the day is opened, where twelve are registered, and for an argument outside its
+/// span; then nothing has changed.
 pub fn register(
     register: &mut Register,
     account: u32,
@@ -58,7 +61,9 @@ fn prices_in_span(prices: Prices) -> Result<(), Refusal>
     )
 }
 
-// Opens the day.
+/// Opens the day at its lowest and its highest price, in cents per MWh: -100,000 at least, 100,000
+/// at most, and the low not above the high. It is refused where the day is opened already, and for
+/// other prices; then nothing has changed.
 pub fn open(register: &mut Register, prices: Prices) -> Result<(), Refusal>
     ensures { (v : View) (rows : List Row) → Does (λ _. answer.Opened) (held register.old rows) v
         (call.Open prices.low prices.high) result (held register.new rows) v }

@@ -1,4 +1,4 @@
-// Every refusal of every call, with its place; and rows handed in broken in each way.
+//! Every refusal of every call, with its place; and rows handed in broken in each way.
 #![tactic(auto)]
 
 use offers::curve::Curve;

@@ -1,4 +1,4 @@
-// The call that corrects a reading of a settled sheet.
+//! The call that corrects a reading of a settled sheet.
 ghost use Rattle.std.specs.Prelude.{◌≡◌, []};
 ghost use Rattle.pool.specs.declared.call.Call.TheVariants as call;
 ghost use Rattle.pool.specs.declared.call.Answer.TheVariants as answer;
@@ -14,8 +14,14 @@ use refusals::Refusal;
 use sheets::register::Register;
 use sheets::row::{Event, Row};
 
-// Kept: the row by its place, as in `pool::figures`: after `get_mut` a proof knows the length alone.
-// Corrects a reading of a settled sheet: what it changes of the nets is posted. It answers how many posts that took.
+/// Corrects a reading of a settled sheet: keeps it, posts the new net less the old one in cents, of
+/// each account where they differ and in rising order of account, and answers how many posts that
+/// took. `facility` is a registered number, `interval` 1 to the number of rows, 48 at most, `kwmin`
+/// 0 to 30,000,000 kWmin. It is refused before the day is opened, where the sheet has no state or
+/// is not settled, for an argument outside these spans, and where the ledger would not take the
+/// amounts; then nothing has changed.
+// Kept: the row is read and written by its place, since after `get_mut` a proof knows no more of
+// the rows than their number.
 pub fn adjust<L: Ledger>(
     register: &Register,
     rows: &mut [Row],

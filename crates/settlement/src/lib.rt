@@ -1,4 +1,4 @@
-// The calls that post to the ledger: settle and adjust.
+//! The calls that post to the ledger: settle and adjust.
 #![tactic(auto)]
 
 pub mod adjusting;

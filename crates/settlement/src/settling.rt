@@ -1,4 +1,4 @@
-// The call that settles a sheet.
+//! The call that settles a sheet.
 ghost use Rattle.std.specs.Prelude.{◌≡◌, ◌≤◌, [], length};
 ghost use Rattle.refusals.specs.declared.Refusal.TheVariants as refusal;
 ghost use Rattle.sheets.specs.Sheets.{complete};
@@ -41,8 +41,14 @@ fn has_load(sheet: &Sheet, interval: u32) -> Result<(), Refusal>
     unless(sheet.has_load(), Refusal::NoLoad(interval))
 }
 
-// Kept: the row by its place, as in `pool::figures`: after `get_mut` a proof knows the length alone.
-// Settles a closed sheet: its nets are posted. It answers how many posts that took.
+/// Settles a closed sheet: posts each of its nets that is not zero, in cents and in rising order of
+/// account, and answers how many posts that took. `interval` is 1 to the number of rows, 48 at
+/// most. It is refused before the day is opened, for an interval without a sheet, where the sheet
+/// has no state or is not closed, where a facility lacks its reading, or has a submission and no
+/// start, where all loads are zero, and where the ledger would not take the amounts; then nothing
+/// has changed.
+// Kept: the row is read and written by its place, since after `get_mut` a proof knows no more of
+// the rows than their number.
 pub fn settle<L: Ledger>(
     register: &Register,
     rows: &mut [Row],

@@ -1,4 +1,4 @@
-// Texts at the edges of the rules, and what is made of them.
+//! Texts at the edges of the rules, and what is made of them.
 #![tactic(auto)]
 
 use offers::curve::Curve;

@@ -1,4 +1,4 @@
-// All worked figures, and what is printed of them.
+//! All worked figures, and what is printed of them.
 ghost use Rattle.std.specs.Prelude.{◌≡◌, ◌++◌, IfOk, OnOk};
 ghost use Rattle.worked_figures.specs.All as all;
 
@@ -94,7 +94,8 @@ fn all_figures(heap: Global, stations: &[Case]) -> Result<Vec<Figure>, AllocErro
     Ok(figures)
 }
 
-// Works all cases out, and tells their figures line by line, and how many of them differ.
+/// The report of all worked figures: each on a line of its own, and how many of them differ. The
+/// stations are handed in. An error means that memory was wanting.
 pub fn worked_report(heap: Global, stations: &[Case]) -> Result<Vec<u8>, AllocError>
     ensures { IfOk result (λ text. text.items ≡ all.worked_report stations.now) }
 {

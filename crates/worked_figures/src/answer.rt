@@ -1,4 +1,4 @@
-// What a call answers, or should answer.
+//! What a call answers, or should answer.
 ghost use Rattle.std.specs.Prelude.{◌≡◌, IfOk, Some, pos};
 ghost use Rattle.std.specs.Option.{option_map};
 ghost use Rattle.worked_figures.specs.Answers as answers;
@@ -7,14 +7,19 @@ ghost use Rattle.worked_figures.specs.Answers.{told, number_if, directed, same};
 use schedule::direction::OutOfMerit;
 use std::alloc::{AllocError, Global};
 
+/// An answer as it is compared: none, a number or a text.
 #[derive(Drop)]
 pub enum Answer {
+    /// No answer.
     Nothing,
+    /// A number, in the unit of the figure that it is of.
     Number(i128),
+    /// A text, as its bytes.
     Text(Vec<u8>),
 }
 
 impl Answer {
+    /// A number that is never negative; nothing for `None`.
     pub fn natural(x: Option<u64>) -> Answer
         ensures { told result ≡ number_if (option_map pos x) }
     {
@@ -24,6 +29,7 @@ impl Answer {
         }
     }
 
+    /// A number of either sign; nothing for `None`.
     pub fn signed(x: Option<i64>) -> Answer
         ensures { told result ≡ number_if x }
     {
@@ -33,7 +39,7 @@ impl Answer {
         }
     }
 
-    // Upward energy as it is, downward energy below zero.
+    /// Energy out of merit in kWmin: upward energy as it is, downward energy below zero.
     pub fn out_of_merit(energy: OutOfMerit) -> Answer
         ensures { told result ≡ answers.number (directed energy) }
     {
@@ -44,12 +50,14 @@ impl Answer {
         }
     }
 
+    /// A text, copied. An error means that memory was wanting.
     pub fn text(heap: Global, text: &[u8]) -> Result<Answer, AllocError>
         ensures { IfOk result (λ answer. told answer ≡ answers.text text.now) }
     {
         Ok(Answer::Text(text.to_vec(heap)?))
     }
 
+    /// Whether two answers are the same: both nothing, equal numbers or equal texts.
     pub fn is_same(&self, other: &Answer) -> bool
         ensures { result ≡ same (told self.now) (told other.now) }
     {

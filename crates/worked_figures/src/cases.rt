@@ -1,16 +1,20 @@
-// What is worked out, and what it should come to.
+//! What is worked out, and what it should come to.
 use offers::curve::Curve;
 use offers::pair::Pair;
 use offers::submission::Submission;
 use schedule::ramp::Ramp;
 
-// A price in cents per MWh, a loss factor, and the adjusted price; nothing where the loss factor is out of its span.
+/// A price at a loss factor, and its adjusted price.
 pub struct Adjusting {
+    /// The price, in cents per MWh.
     pub price: i32,
+    /// The loss factor in ten-thousandths, 8,000 to 12,500 or out of its span.
     pub factor: u32,
+    /// The adjusted price, in cents per MWh; `None` where the loss factor is out of its span.
     pub adjusted: Option<i64>,
 }
 
+/// Prices and loss factors, also at the ends of their spans and past them.
 pub const ADJUSTED: [Adjusting; 13] = [
     Adjusting {
         price: 3_550,
@@ -79,13 +83,17 @@ pub const ADJUSTED: [Adjusting; 13] = [
     },
 ];
 
-// A ramp, a target in kW, and the energy of half an hour in kWmin.
+/// A ramp toward a target, and the energy of half an hour on it.
 pub struct Ramping {
+    /// Where the ramp starts, and its rates.
     pub ramp: Ramp,
+    /// The target, in kW.
     pub target: u32,
+    /// The energy, in kWmin.
     pub energy: u64,
 }
 
+/// Ramps up, down and at their target.
 pub const ENERGIES: [Ramping; 7] = [
     Ramping {
         ramp: Ramp {
@@ -152,11 +160,15 @@ pub const ENERGIES: [Ramping; 7] = [
     },
 ];
 
-// A station as it stands in an interval, but for its reading.
+/// A station as it stands in an interval, but for its reading.
 pub struct Setting {
+    /// Its loss factor, in ten-thousandths, 8,000 to 12,500.
     pub factor: u32,
+    /// Its tolerance, in kWmin, 0 to 30,000,000.
     pub tolerance: u32,
+    /// Its start level in kW, 0 to 1,000,000, and its ramps in kW per minute, 1 to 1,000,000.
     pub ramp: Ramp,
+    /// What it offers, as the pairs of its curve, at most 8.
     pub pairs: &'static [Pair],
 }
 
@@ -164,7 +176,7 @@ impl Setting {
     ghost use Rattle.std.specs.Prelude.{◌≡◌};
     ghost use Rattle.worked_figures.specs.Stations.{submission_of};
 
-    // Nothing where the pairs make no curve.
+    /// The submission that the ramps and the pairs make. `None` where the pairs make no curve.
     pub fn submission(&self) -> Option<Submission>
         ensures { result ≡ submission_of self.now }
     {
@@ -252,7 +264,7 @@ const EIGHT_PAIRS: [Pair; 8] = [
     },
 ];
 
-// The worked station.
+/// The worked station.
 pub const WORKED: Setting = Setting {
     factor: 10_000,
     tolerance: 10_000,
@@ -369,21 +381,31 @@ const NO_PAIRS: Setting = Setting {
     pairs: &[],
 };
 
-// A station, the balancing price, the reading and what should come of them.
-// Energy out of merit is told upward as positive, downward as negative; `taken` has the energy of each block in its order.
+/// A station at a balancing price and a reading, and what should come of them.
 pub struct Case {
+    /// The name of the case.
     pub what: &'static str,
+    /// The station, but for its reading.
     pub setting: Setting,
+    /// The balancing price in cents per MWh, -125,000 to 125,000.
     pub price: i64,
+    /// The reading in kWmin, 0 to 30,000,000.
     pub reading: u32,
+    /// The upper schedule, in kWmin.
     pub upper: u64,
+    /// The lower schedule, in kWmin.
     pub lower: u64,
+    /// The energy out of merit in kWmin: upward positive, downward negative.
     pub out_of_merit: i64,
+    /// The energy of each block in its order, in kWmin.
     pub taken: &'static [u64],
+    /// The non-qualifying energy, in kWmin.
     pub rest: u64,
+    /// The compensation of the station by itself, in cents.
     pub cents: u64,
 }
 
+/// Stations at the edges of the rules, the worked one first.
 pub const CASES: [Case; 25] = [
     Case {
         what: "worked station, upward",
@@ -691,11 +713,16 @@ pub const CASES: [Case; 25] = [
     },
 ];
 
-// A total in cents, the loads of accounts 1 to 11, an account and its levy; nothing outside the eleven or with no load at all.
+/// A total, the loads that bear it, and the levy of one account.
 pub struct Levying {
+    /// The total, in cents.
     pub total: u64,
+    /// The loads of accounts 1 to 11, in kWmin.
     pub loads: [u32; 11],
+    /// The account, 1 to 11 or outside.
     pub account: u32,
+    /// The account's levy, in cents; `None` for an account outside the eleven, or with no load at
+    /// all.
     pub levy: Option<u64>,
 }
 
@@ -705,6 +732,7 @@ const TWO: [u32; 11] = [0, 100_000, 1_200_000, 0, 0, 0, 0, 0, 0, 0, 0];
 
 const NO_LOADS: [u32; 11] = [0; 11];
 
+/// Levies over three equal loads, over two unequal ones, and where there is none.
 pub const LEVIES: [Levying; 11] = [
     Levying {
         total: 10,
@@ -774,12 +802,16 @@ pub const LEVIES: [Levying; 11] = [
     },
 ];
 
-// What the worked station metered on a sheet of two stations, and the balancing price, which does not depend on it.
+/// A reading of the worked station on a sheet of two stations, and the balancing price, which does
+/// not depend on it.
 pub struct Pricing {
+    /// The reading, in kWmin.
     pub reading: u32,
+    /// The balancing price, in cents per MWh.
     pub price: i64,
 }
 
+/// The price at each of six readings.
 pub const PRICED: [Pricing; 6] = [
     Pricing {
         reading: 700_000,
@@ -807,9 +839,11 @@ pub const PRICED: [Pricing; 6] = [
     },
 ];
 
-// What it metered, and the nets of accounts 0 to 3; those of accounts 4 to 11 are 0.
+/// A reading of the worked station on the sheet of two stations, and the nets at it.
 pub struct Metering {
+    /// The reading, in kWmin.
     pub reading: u32,
+    /// The nets of accounts 0 to 3, in cents; those of accounts 4 to 11 are 0.
     pub nets: [i64; 4],
 }
 
@@ -818,7 +852,7 @@ const ONE_PAIR: [Pair; 1] = [Pair {
     kw: 20_000,
 }];
 
-// The other station of the sheet.
+/// The other station of the sheet.
 pub const OTHER: Setting = Setting {
     factor: 10_000,
     tolerance: 10_000,
@@ -830,6 +864,7 @@ pub const OTHER: Setting = Setting {
     pairs: &ONE_PAIR,
 };
 
+/// The nets at each of six readings.
 pub const METERED: [Metering; 6] = [
     Metering {
         reading: 700_000,
@@ -857,13 +892,17 @@ pub const METERED: [Metering; 6] = [
     },
 ];
 
-// A corrected reading, and what it posts to accounts 0 to 3; to accounts 4 to 11 it posts 0.
+/// A corrected reading of the worked station on the sheet of two stations, and what it posts.
 pub struct Correction {
+    /// The reading before, in kWmin.
     pub from: u32,
+    /// The reading after, in kWmin.
     pub to: u32,
+    /// What is posted to accounts 0 to 3, in cents; to accounts 4 to 11 it is 0.
     pub posts: [i64; 4],
 }
 
+/// A correction up, and the same back down.
 pub const CORRECTIONS: [Correction; 2] = [
     Correction {
         from: 700_000,
@@ -877,16 +916,22 @@ pub const CORRECTIONS: [Correction; 2] = [
     },
 ];
 
-// The sheet with its first reading settled over the account table, under a credit limit of account 3 alone:
-// how many posts that takes, or the refusal by its number, its place and its reason.
+/// The sheet of two stations with its first reading settled over the account table, under a credit
+/// limit of account 3 alone: the number of its posts, or its refusal.
 pub struct Settling {
+    /// The credit limit, in cents.
     pub limit: u32,
+    /// How many posts it takes; `None` where it is refused.
     pub posts: Option<u64>,
+    /// The refusal's number; `None` where it is taken.
     pub refusal: Option<u64>,
+    /// The refusal's place, here the account; `None` where it is taken.
     pub place: Option<u64>,
+    /// The number of the ledger's reason, 1 to 3; `None` where it is taken.
     pub reason: Option<u64>,
 }
 
+/// No limit that matters, one that refuses the settle by a cent, and the next, which takes it.
 pub const SETTLED: [Settling; 3] = [
     Settling {
         limit: 4_294_967_295,
@@ -911,20 +956,24 @@ pub const SETTLED: [Settling; 3] = [
     },
 ];
 
-// The settled sheet with its first reading corrected, and how many posts that takes.
+/// The settled sheet with its first reading corrected, and how many posts that takes.
 pub struct Adjustment {
+    /// The corrected reading, in kWmin.
     pub to: u32,
+    /// How many posts it takes; `None` where it is refused.
     pub posts: Option<u64>,
 }
 
+/// The correction of 700,000 kWmin to 730,000.
 pub const ADJUSTMENTS: [Adjustment; 1] = [Adjustment {
     to: 730_000,
     posts: Some(4),
 }];
 
-// A submission as it is taken in, and its written form.
+/// A submission as it is taken in.
 pub const INTAKE: &[u8] =
     b"facility=1\ninterval=14\nrampup=2000\nrampdown=2500\npairs=3\npair=6000:15000\npair=3200:5000\npair=3200:15000\n";
 
+/// The written form of that submission.
 pub const WRITTEN: &[u8] =
     b"facility=1\ninterval=14\nrampup=2000\nrampdown=2500\npairs=2\npair=3200:20000\npair=6000:15000\n";

@@ -1,4 +1,4 @@
-// A figure: what it is of, what it should be, and what it came to.
+//! A figure: what it is of, what it should be, and what it came to.
 ghost use Rattle.std.specs.Prelude.{◌≡◌, ◌↔◌, IsTrue, string_bytes};
 ghost use Rattle.worked_figures.specs.Answers.{told};
 ghost use Rattle.worked_figures.specs.Reports.{Shown, is_equal};
@@ -6,6 +6,7 @@ ghost use Rattle.worked_figures.specs.Reports.{Shown, is_equal};
 use crate::answer::Answer;
 use std::marker::Model;
 
+/// A figure: what it is of, what it should be, and what it came to.
 #[derive(Drop)]
 pub struct Figure {
     what: String,
@@ -25,6 +26,7 @@ impl Model for Figure {
 }
 
 impl Figure {
+    /// The figure of these three.
     pub fn new(what: String, expected: Answer, computed: Answer) -> Figure
         ensures { result ≡ record {
           what = string_bytes what;
@@ -39,25 +41,28 @@ impl Figure {
         }
     }
 
+    /// What it is of, in words.
     pub fn what(&self) -> &str
         ensures { result.now ≡ self.now.what }
     {
         self.what.as_str()
     }
 
+    /// What it should be.
     pub fn expected(&self) -> &Answer
         ensures { told result.now ≡ self.now.expected }
     {
         &self.expected
     }
 
+    /// What it came to.
     pub fn computed(&self) -> &Answer
         ensures { told result.now ≡ self.now.computed }
     {
         &self.computed
     }
 
-    // Whether it came to what it should be.
+    /// Whether it came to what it should be.
     pub fn is_equal(&self) -> bool
         ensures value { result ≡ is_equal self.now }
         ensures exactly { IsTrue result ↔ (self.now.expected ≡ self.now.computed) }

@@ -1,4 +1,5 @@
-// The worked figures: what the library's calls compute of each case, compared with what it should be.
+//! The worked figures: what the library's calls compute of each case, compared with what it should
+//! be.
 #![tactic(auto)]
 
 pub mod all;

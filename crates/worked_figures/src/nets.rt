@@ -1,4 +1,5 @@
-// The figures of the sheet of two stations: its price, its nets, and what a correction changes of them.
+//! The figures of the sheet of two stations: its price, its nets, and what a correction changes of
+//! them.
 ghost use Rattle.std.specs.Prelude.{◌≡◌, ◌<◌, ◌++◌, IfOk, OnOk, string_bytes};
 ghost use Rattle.std.specs.Option.{option_map};
 ghost use Rattle.worked_figures.specs.Nets.{amount_at, of_account, account_figure, account_figures};

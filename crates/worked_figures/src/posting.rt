@@ -1,4 +1,5 @@
-// The sheet of two stations settled and corrected over the account table: how many posts that takes, or why it is refused.
+//! The sheet of two stations settled and corrected over the account table: how many posts that
+//! takes, or why it is refused.
 ghost use Rattle.std.specs.Prelude.{◌≡◌, [], ◌∷◌, ◌++◌, OnOk, Some, replicate, pos};
 ghost use Rattle.std.specs.Option.{option_map, option_and_then};
 ghost use Rattle.std.specs.Result.{result_map_both};

@@ -1,4 +1,4 @@
-// The figures line by line, and how many there are.
+//! The figures line by line, and how many there are.
 ghost use Rattle.std.specs.Prelude.{◌≡◌, ◌++◌, length, count_by, OnOk, IfOk, string_bytes};
 ghost use Rattle.std.specs.List.{flat_map};
 ghost use Rattle.worked_figures.specs.Answers as answers;
@@ -76,7 +76,8 @@ fn tally(heap: Global, shown: usize, differ: usize) -> Result<String, AllocError
     format!(in heap; "{shown} figures, {differ} differ\n")
 }
 
-// Each figure on a line of its own, then the tally.
+/// The report of some figures: each on a line of its own, then how many there are and how many of
+/// them differ. An error means that memory was wanting.
 pub fn report(heap: Global, figures: &[Figure]) -> Result<Vec<u8>, AllocError>
     ensures { IfOk result (λ text. text.items ≡ report_of figures.now) }
 {

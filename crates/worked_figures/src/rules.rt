@@ -1,4 +1,4 @@
-// The figures of single rules: adjusted prices, energies and levies.
+//! The figures of single rules: adjusted prices, energies and levies.
 ghost use Rattle.std.specs.Prelude.{◌≡◌};
 ghost use Rattle.worked_figures.specs.Rules.{adjusted_if};
 

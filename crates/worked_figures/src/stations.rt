@@ -1,4 +1,4 @@
-// The figures of a station: its schedules, its energy out of merit, and what each block takes.
+//! The figures of a station: its schedules, its energy out of merit, and what each block takes.
 ghost use Rattle.std.specs.Prelude.{◌≡◌, ◌<◌, [], ◌∷◌, ◌++◌, IfOk, OnOk, codes, pos, slice_get};
 ghost use Rattle.std.specs.Option.{option_map};
 ghost use Rattle.schedule.specs.Held.{operation};

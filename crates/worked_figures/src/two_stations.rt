@@ -1,4 +1,5 @@
-// The sheet of two stations at a reading of the first: its price, its nets, and what another reading changes of them.
+//! The sheet of two stations at a reading of the first: its price, its nets, and what another
+//! reading changes of them.
 ghost use Rattle.std.specs.Prelude.{◌≡◌, Some};
 ghost use Rattle.std.specs.Option.{IsSomeAnd};
 ghost use Rattle.sheets.specs.Held.{known, prices_of};
@@ -31,6 +32,8 @@ fn facility(account: u32, s: &Setting) -> Facility
     }
 }
 
+/// The register of the two stations, accounts 1 and 2, with the day opened from -1,000 to 10,000
+/// cents per MWh. It is always there.
 pub fn register() -> Option<Register>
     ensures { IsSomeAnd result (λ g. (known g ≡ facilities) × (prices_of g ≡ Some prices)) }
 {
@@ -54,6 +57,7 @@ fn figures(s: &Setting, reading: u32) -> Option<Figures>
     })
 }
 
+/// The row of the two stations in a state, at a reading of the first in kWmin. It is always there.
 pub fn row_at(state: State, reading: u32) -> Option<Row>
     ensures { result ≡ Some (row state reading) }
 {
@@ -76,6 +80,8 @@ fn sheet_at<'a>(register: &'a Register, reading: u32) -> Option<Sheet<'a>>
     Sheet::checked(register, &row)
 }
 
+/// The balancing price of the closed sheet, in cents per MWh, at a reading of the first station in
+/// kWmin. `None` where the row makes no sheet.
 pub fn price_at(reading: u32) -> Option<i64>
     ensures { result ≡ price_at reading }
 {
@@ -85,6 +91,8 @@ pub fn price_at(reading: u32) -> Option<i64>
     Some(price.get())
 }
 
+/// The nets of accounts 0 to 11 on the closed sheet, in cents, at a reading of the first station in
+/// kWmin. `None` where the row makes no sheet.
 pub fn nets_at(reading: u32) -> Option<[i64; 12]>
     ensures { result ≡ nets_at reading }
 {
@@ -93,6 +101,9 @@ pub fn nets_at(reading: u32) -> Option<[i64; 12]>
     nets(&sheet)
 }
 
+/// What the first station's reading changes of the nets as it goes from one figure to another, in
+/// kWmin: new less old of accounts 0 to 11, in cents. `None` where the row makes no sheet or the
+/// new reading is outside its span.
 pub fn change_of(from: u32, to: u32) -> Option<[i64; 12]>
     ensures { result ≡ change_of from to }
 {

@@ -1,4 +1,4 @@
-// What every list of cases has in common: each case shows its figures.
+//! What every list of cases has in common: each case shows its figures.
 ghost use Rattle.std.specs.Prelude.{◌≡◌, List, ◌++◌, OnOk};
 ghost use Rattle.std.specs.List.{flat_map};
 ghost use Rattle.worked_figures.specs.Reports.{Shown};
@@ -6,16 +6,19 @@ ghost use Rattle.worked_figures.specs.Reports.{Shown};
 use crate::figure::Figure;
 use std::alloc::{AllocError, Global};
 
+/// A case that shows its figures.
 pub trait Worked {
-    // the figures that a case shows
+    /// The figures that a case shows.
     ghost shows: { Self → List Shown };
 
-    // Works the case out, and puts its figures behind those so far.
+    /// Works the case out, and puts its figures behind those so far. An error means that memory was
+    /// wanting.
     fn work(&self, heap: Global, figures: &mut Vec<Figure>) -> Result<(), AllocError>
         ensures { OnOk result (figures.new.items ≡ figures.old.items ++ Self.shows self.now) };
 }
 
-// The cases one after another.
+/// Works the cases out one after another, and puts their figures behind those so far. An error
+/// means that memory was wanting.
 pub fn work_all<W: Worked>(
     heap: Global,
     figures: &mut Vec<Figure>,

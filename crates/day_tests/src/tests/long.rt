@@ -1,4 +1,5 @@
-// Some three thousand calls: twelve stations over 48 intervals, each settled, and then each reading corrected.
+//! Some three thousand calls: twelve stations over 48 intervals, each settled, and then each
+//! reading corrected.
 use day::run::run;
 use ledger::accounts::Accounts;
 use ledgers::table::AccountTable;
@@ -219,7 +220,8 @@ fn posts(answers: &[Result<Answer, Refusal>]) -> usize {
     })
 }
 
-// The list opens the day in 13 calls, gives each of the 48 sheets 50, of which the last settles it, and corrects by 576.
+// The list opens the day in 13 calls, gives each of the 48 sheets 50, of which the last settles it,
+// and corrects by 576.
 #[test]
 fn whole_day_in_one_list(rt: HostRuntime) -> Result<(), Fail> {
     let heap = rt.alloc();

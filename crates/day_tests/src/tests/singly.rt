@@ -1,4 +1,5 @@
-// Two calls made one at a time, by a caller that hands in no list: they follow the law of the day too.
+//! Two calls made one at a time, by a caller that hands in no list: they follow the law of the day
+//! too.
 ghost use Rattle.std.specs.Prelude.{◌≡◌, [], ◌∷◌, length, pos};
 ghost use Rattle.pool.specs.declared.call.Call.TheVariants as call;
 ghost use Rattle.pool.specs.declared.call.Answer.TheVariants as answer;

@@ -1,5 +1,6 @@
-// Three accounts within the whole span of money; each post takes one of the places.
-// Kept: its like in the tests of `ledgers` has other bounds, and the tests of the two crates share no crate.
+//! Three accounts within the whole span of money; each post takes one of the places.
+// Kept: the tests of `ledgers` have a ledger like it, with other bounds, and the tests of the two
+// crates share no crate.
 ghost use Rattle.std.specs.Prelude.{◌≡◌, ◌≤◌, replicate, pos};
 ghost use Rattle.day_tests.specs.Small.{small_view, small_sound};
 ghost use Rattle.ledgers.specs.Tables.{AllInSpan};

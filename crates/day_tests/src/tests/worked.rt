@@ -1,4 +1,4 @@
-// A day of six sheets, and the calls of the worked sheet at any interval.
+//! A day of six sheets, and the calls of the worked sheet at any interval.
 use day::run::run;
 use ledger::accounts::Ledger;
 use merit::rung::RUNGS;
@@ -134,8 +134,8 @@ pub fn adjust(facility: u32, interval: u32, kwmin: u32) -> Call<'static> {
     }
 }
 
-// Kept: three lines that the tests of the pool have too; a crate of them would be longer.
 // Whether a call was refused with that number and place.
+// Kept: three lines that the tests of the pool have too; a crate of them would be longer.
 pub fn is_refused(answer: Result<Answer, Refusal>, number: u32, place: usize) -> bool {
     answer.is_err_and(|refusal| refusal.number() == number && refusal.place() == place)
 }
