@@ -33,7 +33,7 @@ fn facility(account: u32, s: &Setting) -> Facility
 }
 
 /// The register of the two stations, accounts 1 and 2, with the day opened from -1,000 to 10,000
-/// cents per MWh. It is always there.
+/// cents per MWh; never `None`.
 pub fn register() -> Option<Register>
     ensures { IsSomeAnd result (λ g. (known g ≡ facilities) × (prices_of g ≡ Some prices)) }
 {
@@ -57,7 +57,7 @@ fn figures(s: &Setting, reading: u32) -> Option<Figures>
     })
 }
 
-/// The row of the two stations in a state, at a reading of the first in kWmin. It is always there.
+/// The row of the two stations in a state, at a reading of the first in kWmin; never `None`.
 pub fn row_at(state: State, reading: u32) -> Option<Row>
     ensures { result ≡ Some (row state reading) }
 {
