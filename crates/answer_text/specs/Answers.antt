@@ -40,9 +40,6 @@ result_words (Err f) = refusal_words f
 abbrev pub answered : ℕ → Result Answer Refusal → List ℕ
 answered n r = decimal n ++ (codes ": " ++ (result_words r ++ codes "\n"))
 
-abbrev pub not_answered : ℕ → List ℕ
-not_answered n = decimal n ++ codes ": not a call\n"
-
 -- a line of the journal
 abbrev pub journal_text : ℕ → ℕ → ℤ → List ℕ
 journal_text k a z = (codes "line=" ++ decimal k) ++ ((codes " account=" ++ decimal a) ++ (codes " cents=" ++ (signed_decimal z ++ codes "\n")))
@@ -53,3 +50,8 @@ balance_text a z = (codes "account=" ++ decimal a) ++ (codes " balance=" ++ (sig
 
 abbrev pub sum_text : ℤ → List ℕ
 sum_text z = codes "sum=" ++ (signed_decimal z ++ codes "\n")
+
+-- how many calls there were, how many of them were taken, and how many refused
+abbrev pub tally_text : ℕ → ℕ → ℕ → List ℕ
+tally_text c t r =
+    (codes "calls=" ++ decimal c) ++ ((codes " taken=" ++ decimal t) ++ ((codes " refused=" ++ decimal r) ++ codes "\n"))

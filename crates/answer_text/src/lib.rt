@@ -5,7 +5,7 @@
 
 ghost use Rattle.std.specs.Prelude.{◌≡◌, ◌+◌, ◌≤◌, ◌++◌, length, decimal};
 ghost use Rattle.text.specs.Drafts.{kept};
-ghost use Rattle.answer_text.specs.Answers.{price_words, answer_words, refusal_words, reason_words, result_words, answered, not_answered, journal_text, balance_text, sum_text};
+ghost use Rattle.answer_text.specs.Answers.{price_words, answer_words, refusal_words, reason_words, result_words, answered, tally_text, journal_text, balance_text, sum_text};
 
 use ledger::reason::Reason;
 use pool::call::{Answer, Lodged};
@@ -88,13 +88,15 @@ pub fn answer_line(line: u64, res: Result<Answer, Refusal>) -> Draft
     draft
 }
 
-/// The line that answers a line of the day file that is not a call. `line` is its number, from 1.
-pub fn not_a_call(line: u64) -> Draft
-    ensures { result ≡ not_answered line }
+/// The last line: how many calls there were, how many of them were taken, and how many refused.
+pub fn tally_line(calls: u64, taken: u64, refused: u64) -> Draft
+    ensures { result ≡ tally_text calls taken refused }
 {
     let mut draft = Draft::new();
-    draft.push_natural(line);
-    draft.push(b": not a call\n");
+    push_figure(&mut draft, b"calls=", calls);
+    push_figure(&mut draft, b" taken=", taken);
+    push_figure(&mut draft, b" refused=", refused);
+    draft.push(b"\n");
     draft
 }
 
