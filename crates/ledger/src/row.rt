@@ -1,4 +1,4 @@
-// Posts a row of twelve amounts, one for each account from 0, to any ledger: all of them or none.
+//! A row of twelve amounts, one for each account from 0, posted to any ledger: all or none.
 ghost use Rattle.std.specs.Prelude.{◌≡◌, ◌||◌, [], pos, ◌+ℤ◌, if◌then◌else◌, Some, None, int_lt};
 ghost use Rattle.ledger.specs.Posting.{refusal, Checked};
 ghost use Rattle.ledger.specs.Rows.{posts, amount, amount_refusal, first_refused, row_refusal, row_answer, Moved, RowAnswered, row_posts, row_taken_posts};
@@ -7,11 +7,16 @@ ghost use Rattle.ledger.specs.declared.reason.Reason.TheVariants.{OutOfBounds};
 
 use crate::accounts::{Accounts, Ledger};
 use crate::reason::Reason;
+use thiserror::Error;
 
-// Why a row is refused, and where: the account's number, or the number of amounts where places are too few for all.
-#[derive(Clone, Copy, PartialEq, Eq, Debug)]
+/// Why a row is refused, and where.
+#[derive(Clone, Copy, PartialEq, Eq, Debug, Error)]
+#[error("{} {place}: {reason}", match .reason {Reason::NoPlaces => "number of amounts", _ => "account"})]
 pub struct RowRefusal {
+    /// The ledger's reason.
     pub reason: Reason,
+    /// The account, 0 to 11, whose amount would be refused; or, where there are fewer places than
+    /// amounts to post, the number of amounts, 1 to 12.
     pub place: usize,
 }
 
@@ -30,11 +35,12 @@ fn check_bounds(balance: i64, cents: i64, lowest: i64, highest: i64) -> Result<(
     }
 }
 
-// Whether a ledger would take a post, and if not, why: the first reason that holds.
+/// Whether a ledger would take a post of cents, of either sign, to an account; an error is the
+/// first reason that holds.
 pub fn check_post<L: Accounts>(ledger: &L, account: usize, cents: i64) -> Result<(), Reason>
     ensures { Checked (refusal (L.view ledger.now) account cents) result }
 {
-    // Kept: one answer for all three; each by `ok_or` would say it three times.
+    // Kept: one answer for all three figures; each by `ok_or` would say it three times.
     let (Some(balance), Some(lowest), Some(highest)) = (
         ledger.balance(account),
         ledger.lowest(account),
@@ -77,7 +83,7 @@ fn check_amounts<L: Accounts>(ledger: &L, amounts: &[i64; 12]) -> Result<(), Row
     Ok(())
 }
 
-// How many posts the row takes, or why it would be refused.
+/// The number of posts that a row of amounts in cents takes, 0 to 12; or why it would be refused.
 pub fn check_row<L: Accounts>(ledger: &L, amounts: &[i64; 12]) -> Result<usize, RowRefusal>
     ensures { result ≡ row_answer (L.view ledger.now) amounts.now }
 {
@@ -100,7 +106,8 @@ fn post_each<L: Ledger>(ledger: &mut L, amounts: &[i64; 12])
         (L.view ledger.new) }
     ensures kept { row_posts 0 amounts.now ≡ [] → ledger.new ≡ ledger.old }
 {
-    // Kept: a loop over the twelve, and not a chain, as each turn posts to the ledger that the last one left.
+    // Kept: a loop over the twelve, and not a chain, as each turn posts to the ledger that the last
+    // one left.
     for (account, cents) in amounts.iter().enumerate() {
         if *cents != 0 {
             ledger.post(account, *cents).unwrap();
@@ -108,9 +115,11 @@ fn post_each<L: Ledger>(ledger: &mut L, amounts: &[i64; 12])
     }
 }
 
+/// Posts each amount of the row, in cents, that is not zero, in rising order of account; the answer
+/// is the number of posts, 0 to 12.
+/// Where the row is refused or no amount is posted, the ledger is the very same. Amounts that sum
+/// to zero leave the sum of all balances as it was.
 // Kept: the amounts are posted to any ledger; a struct would lend both for one call.
-// Posts the row, and answers how many posts that took. Where no post is taken the ledger is the very same. Amounts that sum
-// to zero leave the sum of all balances as it was.
 pub fn post_row<L: Ledger>(ledger: &mut L, amounts: &[i64; 12]) -> Result<usize, RowRefusal>
     ensures answered { RowAnswered (L.view ledger.old) amounts.now result (L.view ledger.new) }
     ensures took { L.took ledger.old (row_taken_posts amounts.now result) ledger.new }

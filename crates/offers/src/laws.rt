@@ -1,7 +1,8 @@
-// What holds of every curve.
+//! What holds of every curve.
 ghost use Rattle.offers.specs.Claims.{InForm, SameOffer, OneCurve, Splitting, Emptying, Reordering, OwnCurve, SamePairs, EqualPairs, EqualSubmissions};
 
-// The call does nothing. A curve is in form and offers at every price what its pairs offer; equal curves are equal offers.
+/// A call that does nothing, and whose contract is what is proved of every curve: it is in form and
+/// offers at every price what its pairs offer; equal curves are equal offers.
 pub fn curves_hold()
     ensures form { InForm }
     ensures offer { SameOffer }

@@ -1,4 +1,4 @@
-// What a station offers: pairs of price and kW, the curve that they make, a submission.
+//! What a station offers: pairs of price and kW, the curve that they make, a submission.
 #![tactic(auto)]
 
 pub mod curve;

@@ -1,4 +1,4 @@
-// The pairs of a curve as blocks, and energy divided over them.
+//! The pairs of a curve as blocks, and energy divided over them.
 ghost use Rattle.std.specs.Prelude.{◌≡◌, ◌-◌, ◌*◌, ◌<◌, ◌≤◌, [], ◌++◌, length, take, drop, filter, Bool, ℤ};
 ghost use Rattle.std.specs.List.{AllByRecursion};
 ghost use Rattle.offers.specs.Curves as curves;
@@ -13,26 +13,33 @@ use crate::round::adjusted_price;
 use crate::span::{BalancingPrice, LossFactor};
 use offers::pair::Pair;
 
-// A pair as a block: its adjusted price, and the energy that it adds to that of the cheaper pairs.
+/// A pair as a block: its adjusted price, and the energy that it adds to that of the cheaper pairs.
 #[derive(Clone, Copy)]
 pub struct Block {
+    /// The adjusted price in cents per MWh, within 125,000 of zero for a pair within 100,000.
     pub price: i64,
+    /// The most energy that it can take, in kWmin.
     pub limit: u64,
 }
 
-// A block and the energy that it takes.
+/// A block and the energy that it takes.
 #[derive(Clone, Copy)]
 pub struct Taken {
+    /// The block.
     pub block: Block,
+    /// The energy in kWmin, 0 to the limit of the block.
     pub energy: u64,
 }
 
+/// Energy divided over blocks: what each of them takes, and the rest.
 // Kept: plain data that is copied and needs no heap; a vector of fixed size is not `Copy`.
-// The first `count` are the blocks in the order in which they take; the rest of the energy is non-qualifying.
 #[derive(Clone, Copy)]
 pub struct Blocks {
+    /// The number of blocks, 0 to 8.
     pub count: usize,
+    /// The blocks in the order in which they take; the first `count` count.
     pub taken: [Taken; 8],
+    /// What no block takes, in kWmin: it is non-qualifying.
     pub rest: u64,
 }
 
@@ -55,8 +62,10 @@ fn block_between(p: Pair, factor: LossFactor, below: u64, through: u64) -> Block
     }
 }
 
-// Kept: tried over `slots.iter_mut().zip(curve)`; what the slots hold after the loop stayed open (`returns`).
-// Lays the blocks of all pairs, in the curve's order. Each takes over the energy of the cheaper ones from the one before.
+// Lays the blocks of all pairs, in the curve's order. Each takes over the energy of the cheaper
+// ones from the one before.
+// Kept: by index; over `slots.iter_mut().zip(curve)` the check finds no proof of what the slots
+// hold after the loop.
 pub(crate) fn lay_blocks(ramp: Ramp, factor: LossFactor, curve: &[Pair], slots: &mut [Block])
     requires room { length curve.now ≤ length slots.old }
     requires few { curves.total curve.now ≤ 1000000 }
@@ -94,7 +103,8 @@ pub(crate) fn cost_of_all(taken: &[Taken], factor: LossFactor, price: BalancingP
     ensures value { result ≡ blocking.costs (factor_parts factor) (price_cents price) taken.now }
     ensures bound { result ≤ 93750000000000000 }
 {
-    // Kept: what `cost` requires holds at each place of the list; a chain wants one answer for that and one for its sum's bound, and is no shorter.
+    // Kept: what `cost` requires holds at each place of the list; a chain wants a proof of that and
+    // another of the bound of its sum, and is no shorter.
     let mut sum = 0;
     for t in taken {
         let cost = t.cost(factor, price);
@@ -127,8 +137,9 @@ impl Blocks {
         self
     }
 
-    // Kept: `Curve::listed` bounds its count in the same way, but over its own slots; what they share is one line.
-    // The blocks in the order in which they take, as many as `count` says and the memory has.
+    /// The blocks in the order in which they take, as many as `count` says, and at most eight.
+    // Kept: `Curve::listed` bounds its count in the same way, but over its own slots; what they
+    // share is one line.
     pub fn listed(&self) -> &[Taken]
         ensures { result.now ≡ take self.now.count self.now.taken }
     {
@@ -144,7 +155,8 @@ pub(crate) fn divide<F: Fn(i64) -> bool>(blocks: &[Block], amount: u64, counts: 
     ensures { (test : ℤ → Bool) → Tests (F.post counts) test →
         result ≡ blocking.divided amount (filter (λ b. test b.price) blocks.now) }
 {
-    // Kept: `take` requires room, which the number of turns shows; std's lemmas show a bound in a `fold` only where its value is a number.
+    // Kept: `take` requires room, which the number of turns shows; std's lemmas show a bound in a
+    // `fold` only where its value is a number.
     let mut t = Blocks::untaken(amount);
     for b in blocks {
         if counts(b.price) {

@@ -1,17 +1,21 @@
-// Which way a station was out of merit.
+//! Which way a station was out of merit.
 ghost use Rattle.std.specs.Prelude.{◌≡◌};
 ghost use Rattle.schedule.specs.Stations.{energy_out};
 
+/// The energy out of merit: which way it counts, and how much of it.
 // Kept: an Option round the first two would only take the third case its name.
-// The energy that counts, in kWmin: above the upper schedule, below the lower one, or none.
 #[derive(Clone, Copy, PartialEq, Eq, Debug)]
 pub enum OutOfMerit {
+    /// The energy above the upper schedule, in kWmin.
     Upward(u64),
+    /// The energy below the lower schedule, in kWmin.
     Downward(u64),
+    /// No energy counts.
     Neither,
 }
 
 impl OutOfMerit {
+    /// The energy that counts either way, in kWmin; 0 where none does.
     pub fn energy(self) -> u64
         ensures { result ≡ energy_out self }
     {

@@ -1,4 +1,5 @@
-// A station in one interval: what it should have generated, how far it was out of merit, and what that is owed.
+//! A station in one interval: what it should have generated, how far it was out of merit, and what
+//! that is owed.
 #![tactic(auto)]
 
 pub mod block;

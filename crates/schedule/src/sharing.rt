@@ -1,4 +1,4 @@
-// The levy: a total shared out over the loads of eleven accounts.
+//! The levy: a total shared out over the loads of eleven accounts.
 ghost use Rattle.std.specs.Prelude.{sum, ◌≡◌, ◌*◌, ◌/◌, ◌^◌, ◌<◌, ◌≤◌, length};
 ghost use Rattle.schedule.specs.Levies as levies;
 
@@ -19,8 +19,9 @@ fn share(total: u64, part: u64, whole: u64) -> u64
     (total as u128 * part as u128 / whole as u128) as u64
 }
 
-// What an account bears of the total: what the accounts up to it bear, less what those before it bear.
-// Nothing for an account outside 1..11, or where nobody has a load.
+/// What an account, 1 to 11, bears of a total in cents, in cents: what the accounts up to it bear,
+/// less what those before it bear. The loads are in kWmin.
+/// `None` for an account outside 1 to 11, or where all loads are zero.
 pub fn levy(total: u64, loads: &[u32; 11], account: u32) -> Option<u64>
     ensures { result ≡ levies.levy_of total loads.now account }
 {

@@ -1,13 +1,17 @@
-// Figures that keep their spans.
+//! Figures that keep their spans.
 ghost use Rattle.std.specs.Prelude.{◌≡◌, ◌≤◌, true, false, MatchResult, unsigned_abs};
 ghost use Rattle.schedule.specs.Spans.{factor_fits, balancing_fits};
 
-// The figure is outside its span.
-#[derive(Clone, Copy, PartialEq, Eq, Debug)]
+use thiserror::Error;
+
+/// A figure is outside its span.
+#[derive(Clone, Copy, PartialEq, Eq, Debug, Error)]
+#[error("the figure is outside its span")]
 pub struct OutOfSpan;
 
-// Kept: two spans over two number types; in one generic type the bounds would be const parameters of a type parameter, which Rust has not.
-// A loss factor in ten-thousandths, 8,000 to 12,500.
+/// A loss factor in ten-thousandths, 8,000 to 12,500.
+// Kept: two spans over two number types; in one generic type the bounds would be const parameters
+// of a type parameter, which Rust has not.
 #[derive(Clone, Copy)]
 pub struct LossFactor {
     value: u32,
@@ -35,8 +39,9 @@ impl TryFrom<u32> for LossFactor {
 impl LossFactor {
     ghost use Rattle.schedule.specs.Shown.{factor_parts};
 
-    // The factor in ten-thousandths.
-    // Kept: `get` here and below, as at std's `NonZero`; a `From` would stand beside it and say the same.
+    /// The factor in ten-thousandths, 8,000 to 12,500.
+    // Kept: `get` here and below, as at std's `NonZero`; a `From` would stand beside it and say the
+    // same.
     pub fn get(self) -> u32
         ensures value { result ≡ factor_parts self }
         ensures low { 8000 ≤ result }
@@ -46,7 +51,7 @@ impl LossFactor {
     }
 }
 
-// A balancing price in cents per MWh, within 125,000 of zero: the adjusted price of an offer.
+/// A balancing price in cents per MWh, -125,000 to 125,000: the adjusted price of an offer.
 #[derive(Clone, Copy)]
 pub struct BalancingPrice {
     cents: i64,
@@ -73,7 +78,7 @@ impl TryFrom<i64> for BalancingPrice {
 impl BalancingPrice {
     ghost use Rattle.schedule.specs.Shown.{price_cents};
 
-    // The price in cents per MWh.
+    /// The price in cents per MWh, -125,000 to 125,000.
     pub fn get(self) -> i64
         ensures value { result ≡ price_cents self }
         ensures near { unsigned_abs result ≤ 125000 }

@@ -1,4 +1,4 @@
-// A text in the making, of at most 512 bytes, which lie in the value itself.
+//! A text in the making, of at most 512 bytes, which lie in the value itself.
 ghost use Rattle.std.specs.Prelude.{ℕ, List};
 
 use arrayvec::ArrayVec;
@@ -6,7 +6,9 @@ use std::marker::Model;
 
 pub mod acts;
 
-// Kept: a type of its own, since a draft keeps what fits and cannot fail, where a `fmt::Write` answers an error.
+/// A text in the making: bytes put one behind the other, 512 at most, of which it keeps what fits.
+// Kept: a type of its own, since a draft keeps what fits and cannot fail, where a `fmt::Write`
+// answers an error.
 #[derive(Drop)]
 pub struct Draft {
     text: ArrayVec<u8, 512>,

@@ -1,4 +1,4 @@
-// Texts of lines `key=value`: reading their numbers and lines, and making them without a heap.
+//! Texts of lines `key=value`: reading their numbers and lines, and making them without a heap.
 #![tactic(auto)]
 
 pub mod draft;

@@ -1,4 +1,4 @@
-// Lines `key=value`, each ended by a line feed.
+//! Lines `key=value`, each ended by a line feed.
 ghost use Rattle.std.specs.Prelude.{◌≡◌, ℕ, List, Result, Ok, IfOk};
 ghost use Rattle.std.specs.Fn.{FnReturnsAt};
 ghost use Rattle.std.specs.Option.{option_map};
@@ -8,17 +8,22 @@ ghost use Rattle.text.specs.declared.number.NumberFault.{NumberFault as Fault};
 ghost use Rattle.text.specs.Lines.{before, after, keyed, line_of, Reads};
 
 use crate::number::NumberFault;
+use thiserror::Error;
 
-// What is wrong with a line.
-#[derive(Clone, Copy, PartialEq, Eq, Debug)]
+/// What is wrong with a line; of several faults of one line, the first in this order is told.
+#[derive(Clone, Copy, PartialEq, Eq, Debug, Error)]
 pub enum LineFault {
-    // Another key, or no `=`.
+    /// Another key than the one due, or no `=`.
+    #[error("another key than the one due, or no `=`")]
     Key,
-    // A number badly written or outside its span.
+    /// A number badly written or outside its span.
+    #[error("{0}")]
     Number(NumberFault),
-    // No line feed at the end.
+    /// No line feed at the end of the line.
+    #[error("no line feed at the end of the line")]
     Feed,
-    // Bytes where no line is due.
+    /// Bytes where no line is due any more.
+    #[error("bytes after the last line")]
     Extra,
 }
 
@@ -30,7 +35,7 @@ impl From<NumberFault> for LineFault {
     }
 }
 
-// The bytes before the first `b`, and those after it if there is one.
+/// The bytes before the first byte `b`, and those after it; `None` for these where there is no `b`.
 pub fn cut(s: &[u8], b: u8) -> (&[u8], Option<&[u8]>)
     ensures front { result.0.now ≡ before b s.now }
     ensures back { option_map (λ x. x.now) result.1 ≡ after b s.now }
@@ -41,16 +46,17 @@ pub fn cut(s: &[u8], b: u8) -> (&[u8], Option<&[u8]>)
     }
 }
 
-// The bytes after `key=`.
+/// The bytes that a line has after `key=`; `None` where it has another key or no `=`.
 pub fn value_of<'a>(line: &'a [u8], key: &[u8]) -> Option<&'a [u8]>
     ensures { option_map (λ x. x.now) result ≡ keyed key.now line.now }
 {
     let (name, value) = cut(line, b'=');
-    // Kept: `value.filter(|_| name == key)` would be a test that does not read what it tests.
+    // Kept: in `value.filter(|_| name == key)` the test would not read the value that it is given.
     if name == key { value } else { None }
 }
 
-// A line `key=value` whose value that function reads, and the bytes after it.
+/// What the function reads from the value of the first line, which is to be `key=value`, and the
+/// bytes after that line; an error tells what is wrong with the line.
 pub fn line_with<'a, T: Drop, F: Fn(&[u8]) -> Result<T, NumberFault>>(
     s: &'a [u8],
     key: &[u8],

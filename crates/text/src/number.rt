@@ -1,14 +1,19 @@
-// Numbers as a text has them: digits with no leading zero, a minus only before a number above zero.
+//! Numbers as a text has them: digits with no leading zero, a minus only before a number above
+//! zero.
 ghost use Rattle.std.specs.Prelude.{◌≡◌, ℕ, ◌+◌, ◌*◌, ◌^◌, ◌≤◌, min, ◌≤ℤ◌, IfOk, Some};
 ghost use Rattle.std.specs.Option.{option_map};
 ghost use Rattle.text.specs.Numbers.{onward, positive, plain, with_sign, clamped, natural_of, signed_of, ReadsNatural, ReadsSigned};
 
-// Why bytes are not the number that is asked for.
-#[derive(Clone, Copy, PartialEq, Eq, Debug)]
+use thiserror::Error;
+
+/// Why bytes are not the number that is asked for.
+#[derive(Clone, Copy, PartialEq, Eq, Debug, Error)]
 pub enum NumberFault {
-    // Not how a number is written.
+    /// The bytes are not how a number is written.
+    #[error("the number is badly written")]
     Form,
-    // A number outside its span.
+    /// The number lies outside its span.
+    #[error("the number lies outside its span")]
     Span,
 }
 
@@ -19,7 +24,8 @@ const CAP: u128 = 18_446_744_073_709_551_616;
 fn digits(first: u8, rest: &[u8]) -> Option<u128>
     ensures { result ≡ option_map (min (2 ^ 64)) (onward first rest.now) }
 {
-    // Kept: of the closure in a `try_fold` it stays unproved that the next product fits (`try_fold-requires-clause-callable`).
+    // Kept: a loop, since for the closure of a `try_fold` the check finds no proof that the next
+    // product fits.
     let mut n = u128::from(first);
     for b in rest {
         match *b {
@@ -50,13 +56,15 @@ fn unsigned(s: &[u8]) -> Option<u128>
     }
 }
 
-// Kept: this and `read_signed` end alike, but over numbers and signed numbers; one function for both would state by a bound what
-// a conversion gives, and be longer than the two.
+// The number without a sign that the bytes are, if it lies from low to high.
+// Kept: this and `read_signed` end alike, but over numbers and signed numbers; one function for
+// both would state by a bound what a conversion gives, and be longer than the two.
 fn read_natural(s: &[u8], low: u64, high: u64) -> Result<u64, NumberFault>
     ensures { result ≡ natural_of low high s.now }
 {
     let n = unsigned(s).ok_or(NumberFault::Form)?;
-    // Kept: one guard for both ways out of the span; by `filter` in its place the signed form stayed unproved (`returns`).
+    // Kept: one guard for both ways out of the span; with `filter` in its place, in `read_signed`
+    // too, the check finds no proof that the signed answer is the one that the clause names.
     match u64::try_from(n) {
         Ok(n) if (low..=high).contains(&n) => Ok(n),
         _ => Err(NumberFault::Span),
@@ -73,21 +81,26 @@ fn integer(s: &[u8]) -> Option<i128>
     }
 }
 
+// The number, with a minus or not, that the bytes are, if it lies from low to high.
 fn read_signed(s: &[u8], low: i64, high: i64) -> Result<i64, NumberFault>
     ensures { result ≡ signed_of low high s.now }
 {
     let z = integer(s).ok_or(NumberFault::Form)?;
-    // Kept: as of `read_natural`.
+    // Kept: one guard for both ways out of the span; with `filter` in its place the check finds no
+    // proof that the answer is the one that the clause names.
     match i64::try_from(z) {
         Ok(z) if (low..=high).contains(&z) => Ok(z),
         _ => Err(NumberFault::Span),
     }
 }
 
-// Kept: two ends, since the clauses speak of each; a range would be taken apart in every one of them.
-// The number without a sign that the bytes are, if it lies from low to high.
-// Kept: apart from `read_natural`, as `signed` from `read_signed`: span and form are drawn once from the value told there, and not at
-// each of its three exits.
+/// The number without a sign that the bytes are, which lies from `low` to `high`.
+/// An error tells that the bytes are not how a number is written, or that it lies outside that
+/// span.
+// Kept: two ends, since the clauses speak of each; a range would be taken apart in every one of
+// them.
+// Kept: apart from `read_natural`, as `signed` from `read_signed`: span and form are drawn once
+// from the value told there, and not at each of its three exits.
 pub fn natural(s: &[u8], low: u64, high: u64) -> Result<u64, NumberFault>
     ensures value { result ≡ natural_of low high s.now }
     ensures within { IfOk result (λ n. (low ≤ n) × (n ≤ high)) }
@@ -96,7 +109,9 @@ pub fn natural(s: &[u8], low: u64, high: u64) -> Result<u64, NumberFault>
     read_natural(s, low, high)
 }
 
-// The same of a number that may have a minus.
+/// The number, with a minus or not, that the bytes are, which lies from `low` to `high`.
+/// An error tells that the bytes are not how a number is written, or that it lies outside that
+/// span.
 pub fn signed(s: &[u8], low: i64, high: i64) -> Result<i64, NumberFault>
     ensures value { result ≡ signed_of low high s.now }
     ensures within { IfOk result (λ z. (low ≤ℤ z) × (z ≤ℤ high)) }

@@ -1,4 +1,4 @@
-// The blocks of a station and its part of a compensation.
+//! The blocks of a station and its part of a compensation.
 ghost use Rattle.std.specs.Prelude.{◌≡◌, ◌≤◌, length, take};
 ghost use Rattle.schedule.specs.Blocks as blocking;
 ghost use Rattle.schedule.specs.Stations as stations;
@@ -11,8 +11,9 @@ use crate::direction::OutOfMerit;
 use crate::span::BalancingPrice;
 
 impl Station {
+    // Lays the blocks of all its pairs in front, in the curve's order. It answers how many they
+    // are.
     // Kept: lent memory, so the count is answered and the front is the caller's to cut.
-    // Lays the blocks of all its pairs in front, in the curve's order. It answers how many they are.
     fn lay(&self, slots: &mut [Block]) -> usize
         requires { length slots.old ≡ 8 }
         ensures few { result ≤ 8 }
@@ -25,8 +26,8 @@ impl Station {
         curve.len()
     }
 
-    // Its energy out of merit, divided over its blocks: upward the pairs above the price in the curve's order,
-    // downward those below it in reverse, each taking what is left up to its limit.
+    /// Its energy out of merit, divided over its blocks: upward the pairs above the price in the
+    /// curve's order, downward those below it in reverse, each taking what is left up to its limit.
     pub fn blocks(&self, price: BalancingPrice) -> Blocks
         ensures { result ≡ blocking.divided
             (stations.energy_counted (operation self.now) (price_cents price))
@@ -48,8 +49,10 @@ impl Station {
         }
     }
 
-    // Its own part of its account's compensation, unrounded.
-    // Kept: the bound goes with the figure wherever it is handed on; a type for it would be taken apart for its number.
+    /// Its own part of its account's compensation, unrounded, in kWmin × ten-thousandths × cents
+    /// per MWh, 0 to 93,750,000,000,000,000.
+    // Kept: the bound goes with the figure wherever it is handed on; a type for it would be taken
+    // apart for its number.
     pub fn part(&self, price: BalancingPrice) -> u64
         ensures value { result ≡ stations.part (operation self.now) (price_cents price) }
         ensures bound { result ≤ 93750000000000000 }

@@ -1,4 +1,4 @@
-// A station is made only of figures within their spans.
+//! A station is made only of figures within their spans.
 ghost use Rattle.std.specs.Prelude.{◌≡◌, true, false, MatchOption};
 ghost use Rattle.offers.specs.Tests.{all};
 ghost use Rattle.schedule.specs.Spans as spans;
@@ -11,7 +11,9 @@ use offers::curve::Curve;
 use offers::pair::Pair;
 use offers::submission::Submission;
 
-// Kept: `sheets` tests prices and rates by functions of its own, over definitions of its own; neither crate builds on the other.
+// Whether the price of a pair lies within 100,000 cents per MWh of zero.
+// Kept: `sheets` tests prices and rates by functions of its own, over definitions of its own;
+// neither crate builds on the other.
 fn price_fits(p: Pair) -> bool
     ensures { result ≡ spans.price_fits p }
 {
@@ -55,8 +57,13 @@ fn figures_fit(tolerance: u32, start: u32, reading: u32) -> bool
 }
 
 impl Station {
-    // Kept: the figures come from facility, row and interval; a struct of the five would be made only to be taken apart here.
-    // Nothing where a figure is outside its span, or the curve is out of form.
+    /// A station of a loss factor in ten-thousandths (8,000 to 12,500), a tolerance in kWmin (0 to
+    /// 30,000,000), a start level in kW (0 to 1,000,000), a submission, and a reading in kWmin (0
+    /// to 30,000,000).
+    /// `None` where a figure is outside its span, also one of the submission, where the curve is
+    /// out of form, or where its kW together are more than 1,000,000.
+    // Kept: the figures come from facility, row and interval; a struct of the five would be made
+    // only to be taken apart here.
     pub fn new(
         loss_factor: u32,
         tolerance: u32,

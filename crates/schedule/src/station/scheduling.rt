@@ -1,4 +1,4 @@
-// The schedules of a station, and its energy out of merit.
+//! The schedules of a station, and its energy out of merit.
 ghost use Rattle.std.specs.Prelude.{◌≡◌, ◌≤◌, Bool, ℤ};
 ghost use Rattle.offers.specs.Curves as curves;
 ghost use Rattle.schedule.specs.Blocks as blocking;
@@ -50,7 +50,7 @@ impl Station {
         }
     }
 
-    // The upper schedule: energy of what is offered up to the price.
+    /// The upper schedule in kWmin: energy of what is offered up to the price.
     pub fn upper(&self, price: BalancingPrice) -> u64
         ensures { result ≡ stations.upper (operation self.now) (price_cents price) }
     {
@@ -58,7 +58,7 @@ impl Station {
         self.ramp().energy(kw_where(curve, self.factor, |adjusted| adjusted <= price.get()))
     }
 
-    // The lower schedule: energy of what is offered below the price.
+    /// The lower schedule in kWmin: energy of what is offered below the price.
     pub fn lower(&self, price: BalancingPrice) -> u64
         ensures { result ≡ stations.lower (operation self.now) (price_cents price) }
     {
@@ -66,7 +66,8 @@ impl Station {
         self.ramp().energy(kw_where(curve, self.factor, |adjusted| adjusted < price.get()))
     }
 
-    // How far the reading is above the upper schedule or below the lower one, where that passes the tolerance.
+    /// Its energy out of merit: how far the reading is above the upper schedule or below the lower
+    /// one, where that passes the tolerance.
     pub fn out_of_merit(&self, price: BalancingPrice) -> OutOfMerit
         ensures { result ≡ stations.out_of_merit (operation self.now) (price_cents price) }
     {

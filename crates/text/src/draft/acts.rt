@@ -1,4 +1,4 @@
-// What is done with drafts, and placing a text in the caller's memory.
+//! What is done with drafts, and placing a text in the caller's memory.
 ghost use Rattle.std.specs.Prelude.{◌≡◌, ◌≤◌, [], ◌++◌, length, decimal};
 ghost use Rattle.std.specs.Fmt.{signed_decimal};
 ghost use Rattle.text.specs.Lines.{line_text};
@@ -10,6 +10,7 @@ use arrayvec::ArrayVec;
 use itoa::Buffer;
 
 impl Draft {
+    /// A draft with no byte yet.
     pub fn new() -> Draft
         ensures { result ≡ [] }
     {
@@ -18,7 +19,7 @@ impl Draft {
         }
     }
 
-    // Puts the piece after the text so far, or as much of it as there is room for.
+    /// Puts the piece after the text so far, or as much of it as there is room for.
     pub fn push(&mut self, piece: &[u8])
         ensures { self.new ≡ kept (self.old ++ piece.now) }
     {
@@ -26,19 +27,23 @@ impl Draft {
         self.text.try_extend_from_slice(&piece[..n]).unwrap();
     }
 
+    /// Puts the digits of a number after the text so far, or as many as there is room for.
     pub fn push_natural(&mut self, n: u64)
         ensures { self.new ≡ kept (self.old ++ decimal n) }
     {
         self.push(Buffer::new().format(n).as_bytes());
     }
 
+    /// Puts the digits of a signed number, with a minus where it is negative, after the text so
+    /// far, or as much of them as there is room for.
     pub fn push_signed(&mut self, z: i64)
         ensures { self.new ≡ kept (self.old ++ signed_decimal z) }
     {
         self.push(Buffer::new().format(z).as_bytes());
     }
 
-    // Puts a line `key=n` after the text so far.
+    /// Puts a line `key=n` with its line feed after the text so far, or as much of it as there is
+    /// room for.
     pub fn push_line(&mut self, key: &[u8], n: u64)
         ensures { self.new ≡ kept (self.old ++ line_text key.now n) }
     {
@@ -48,7 +53,7 @@ impl Draft {
         self.push(b"\n");
     }
 
-    // The text so far.
+    /// The text so far, at most 512 bytes.
     pub fn bytes(&self) -> &[u8]
         ensures value { result.now ≡ self.now }
         ensures few { length result.now ≤ 512 }
@@ -57,8 +62,9 @@ impl Draft {
     }
 }
 
+/// Puts a text at the front of the caller's memory, and answers its length in bytes.
+/// Where the memory is too short it is refused, and the memory is left as it was.
 // Kept: lent memory, so the length is answered and the front is the caller's to cut.
-// The text at the front of the caller's memory, and its length. Refused, it leaves the memory as it was.
 pub fn place(text: &[u8], out: &mut [u8]) -> Result<usize, TextTooShort>
     ensures value { result ≡ placed_length text.now out.old }
     ensures after { out.new ≡ placed_text text.now out.old }
