@@ -1,4 +1,5 @@
-// The journal: each post is a line in the caller's memory, and a balance is the sum of its account's lines.
+//! The journal: each post is a line in the caller's memory, and a balance is the sum of its
+//! account's lines.
 ghost use Rattle.std.specs.Prelude.{◌≡◌, ◌≤◌, length, take, refl};
 ghost use Rattle.std.proofs.Common.{◌∙◌};
 ghost use Rattle.ledger.specs.Posting.{Answered, taken};
@@ -15,6 +16,9 @@ const ACCOUNTS: usize = 12;
 // No more lines than these are used, however long the memory is.
 const LINES: usize = 4_096;
 
+/// A journal of twelve accounts, 0 to 11: each post taken is a line in memory that the caller
+/// lends, and a balance is the sum of its account's lines.
+/// It uses at most 4,096 lines, however long the memory is.
 // Kept: the memory is the caller's, so the lines are a lent slice and the number of those in use.
 #[derive(Drop)]
 pub struct Journal<'a> {
@@ -31,7 +35,7 @@ pub struct Journal<'a> {
 impl<'a> Journal<'a> {
     ghost use Rattle.journal.specs.Shown.{memory_of, lender_of, used_of, posted_of};
 
-    // A journal with no line yet, over the memory as it is.
+    /// A journal with no line yet, over the memory as it is.
     pub fn new(lines: &'a mut [Line]) -> Journal<'a>
         ensures lines { memory_of result ≡ lines.old }
         ensures used { used_of result ≡ 0 }
@@ -44,7 +48,7 @@ impl<'a> Journal<'a> {
         }
     }
 
-    // The lines written, oldest first.
+    /// The lines written, oldest first.
     pub fn posted(&self) -> &[Line]
         ensures lines { result.now ≡ posted_of self.now }
         ensures count { length result.now ≡ used_of self.now }
@@ -52,7 +56,7 @@ impl<'a> Journal<'a> {
         &self.lines[..self.used]
     }
 
-    // How many lines are written.
+    /// The number of lines written, 0 to 4,096.
     pub fn used(&self) -> usize
         ensures { result ≡ used_of self.now }
     {

@@ -1,4 +1,4 @@
-// A ledger in lent memory: lines of account and cents, written one behind the other.
+//! A ledger in lent memory: lines of account and cents, written one behind the other.
 #![tactic(auto)]
 
 pub mod entry;

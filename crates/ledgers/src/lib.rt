@@ -1,4 +1,4 @@
-// Ledgers: the account table, and the credit limit that lies over any ledger.
+//! Ledgers: the account table, and the credit limit that lies over any ledger.
 #![tactic(auto)]
 
 pub mod limit;

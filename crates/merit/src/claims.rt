@@ -1,8 +1,8 @@
-// What is proved of every merit order and price. The call does nothing.
+//! What is proved of every merit order and price. The call does nothing.
 ghost use Rattle.merit.specs.Claims as claimed;
 
-// The price is the least that reaches the demand, the marginal rung is the first that does, the merit order has each pair once,
-// and a closed or settled sheet has a price.
+/// The price is the least that reaches the demand, the marginal rung is the first that does, the
+/// merit order has each pair once, and a closed or settled sheet has a price.
 pub fn merit_holds()
     ensures price { claimed.LeastPrice }
     ensures reached { claimed.ReachedExactly }

@@ -1,4 +1,4 @@
-// The merit order of a sheet's offers, and the price at which they reach its demand.
+//! The merit order of a sheet's offers, and the price at which they reach its demand.
 #![tactic(auto)]
 
 pub mod claims;

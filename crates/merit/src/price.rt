@@ -1,4 +1,4 @@
-// The merit order, the balancing price and the marginal facility of a sheet.
+//! The merit order, the balancing price and the marginal facility of a sheet.
 ghost use Rattle.std.specs.Prelude.{◌≡◌, ◌≤◌, length, is_some};
 ghost use Rattle.std.specs.Option.{option_map};
 ghost use Rattle.schedule.specs.Shown.{price_cents};
@@ -17,7 +17,8 @@ use sheets::sheet::Sheet;
 fn first_reaching(rungs: &[Rung], demand: u32) -> Option<Rung>
     ensures { result ≡ marginal rungs.now demand }
 {
-    // Kept: a chain would have to carry what is left from rung to rung, which the loop says outright.
+    // Kept: a chain would have to carry what is left from rung to rung, which the loop says
+    // outright.
     let mut left = demand;
     for r in rungs {
         if r.kw >= left {
@@ -28,8 +29,10 @@ fn first_reaching(rungs: &[Rung], demand: u32) -> Option<Rung>
     None
 }
 
-// Kept: the working rungs are the caller's, lent for the one call, so they come beside the sheet, and how many are in use is answered beside them.
-// Lays the merit order of the sheet's offers into the front of the working rungs, and tells how many there are.
+// Lays the merit order of the sheet's offers into the front of the working rungs, and tells how
+// many there are.
+// Kept: the working rungs are the caller's, lent for the one call, so they come beside the sheet,
+// and how many are in use is answered beside them.
 fn lay_sheet(sheet: &Sheet, working: &mut [Rung]) -> usize
     requires { 96 ≤ length working.old }
     ensures count { result ≡ length (offers_in sheet.now) }
@@ -49,8 +52,9 @@ fn marginal_rung(sheet: &Sheet, demand: u32, working: &mut [Rung]) -> Option<Run
     first_reaching(&working[0..n], demand)
 }
 
-// The merit order of the sheet's offers, in the front of the working rungs; it tells how many there are.
-// Nothing, with nothing changed, where fewer than 96 rungs are lent.
+/// Lays the merit order of the sheet's offers into the front of the working rungs, and tells how
+/// many there are, 0 to 96.
+/// `None`, with nothing changed, where fewer than 96 rungs are lent.
 pub fn merit_order(sheet: &Sheet, working: &mut [Rung]) -> Option<usize>
     ensures { Orders (offers_in sheet.now) working.old result working.new }
 {
@@ -60,8 +64,10 @@ pub fn merit_order(sheet: &Sheet, working: &mut [Rung]) -> Option<usize>
     Some(lay_sheet(sheet, working))
 }
 
-// The balancing price of the sheet, and the facility that owns the marginal rung.
-// Nothing where there is no demand, or the offers do not reach it: on no closed or settled sheet.
+/// The balancing price of the sheet, and the number of the marginal facility, 1 to 12, which owns
+/// the marginal rung.
+/// `None` where there is no demand, or the offers do not reach it; never so on a closed or settled
+/// sheet.
 pub fn balancing_price(sheet: &Sheet) -> Option<(BalancingPrice, u32)>
     ensures value { option_map (λ x. (price_cents x.0, x.1)) result ≡ price_in sheet.now }
     ensures told { is_some result ≡ reaches (figures_in sheet.now) (demand_in sheet.now) }
@@ -73,8 +79,11 @@ pub fn balancing_price(sheet: &Sheet) -> Option<(BalancingPrice, u32)>
     Some((price, marginal.facility))
 }
 
-// The same for a sheet that is to be closed, with its merit order laid into the working rungs. Nothing, with nothing changed,
-// where fewer than 96 rungs are lent, there is no demand, or the offers do not reach it.
+/// The balancing price in cents per MWh, -125,000 to 125,000, and the number of the marginal
+/// facility, 1 to 12, of a sheet that is to be closed, with its merit order laid into the working
+/// rungs.
+/// `None`, with nothing changed, where fewer than 96 rungs are lent, there is no demand, or the
+/// offers do not reach it.
 pub fn clearing(sheet: &Sheet, working: &mut [Rung]) -> Option<(i64, u32)>
     ensures { Clears (facilities_in sheet.now) (figures_in sheet.now) (demand_in sheet.now)
         working.old result working.new }

@@ -1,4 +1,5 @@
-// The register and the sheets of a day: what they hold, when a row is a sheet that has a state, and how one changes.
+//! The register and the sheets of a day: what they hold, when a row is a sheet that has a state,
+//! and how one changes.
 #![tactic(auto)]
 
 pub mod claims;

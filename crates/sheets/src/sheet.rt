@@ -1,4 +1,4 @@
-// A sheet: a row that has a state, under its register.
+//! A sheet: a row that has a state, under its register.
 ghost use Rattle.std.specs.Prelude.{◌≡◌, true, length};
 ghost use Rattle.sheets.specs.Sheets.{sheet_sound};
 ghost use Rattle.sheets.specs.Held.{known};
@@ -6,6 +6,7 @@ ghost use Rattle.sheets.specs.Held.{known};
 use crate::register::Register;
 use crate::row::Row;
 
+/// A sheet: a row that has a state, under its register.
 #[derive(Clone, Copy)]
 pub struct Sheet<'a> {
     register: &'a Register,

@@ -1,4 +1,4 @@
-// The tests of a row that a sheet is made from.
+//! The tests of a row that a sheet is made from.
 ghost use Rattle.std.specs.Prelude.{◌≡◌, ◌≤◌, length};
 ghost use Rattle.offers.specs.Tests.{all};
 ghost use Rattle.sheets.specs.Tests.{all2, if_some};
@@ -111,7 +111,8 @@ pub(crate) fn any_load(positions: &[Position]) -> bool
 }
 
 // The kW that all facilities of a table offer.
-// Kept: `Sheet::figures` gives a plain slice; a type for at most twelve would be taken apart in these three bodies.
+// Kept: `Sheet::figures` gives a plain slice; a type for at most twelve would be taken apart here
+// and in the two functions below.
 pub(crate) fn offers_of(table: &[Figures]) -> u64
     requires { length table.now ≤ 12 }
     ensures { result ≡ offers table.now }

@@ -1,5 +1,6 @@
-// The spans of single figures, and of what a register holds.
-// Kept: a call tests the same spans figure by figure, for the position of the first that does not fit, so they stand here and there.
+//! The spans of single figures, and of what a register holds.
+// Kept: a call tests the same spans figure by figure, for the position of the first that does not
+// fit, so they stand here and there.
 ghost use Rattle.std.specs.Prelude.{◌≡◌};
 ghost use Rattle.sheets.specs.Spans.{facility_sound, prices_sound, price_fits};
 

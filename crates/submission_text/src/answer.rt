@@ -1,4 +1,4 @@
-// What the intake answers to a text.
+//! What the intake answers to a text.
 ghost use Rattle.std.specs.Prelude.{◌≡◌};
 ghost use Rattle.submission_text.specs.Write.{refusal_text, answer_text};
 ghost use Rattle.submission_text.specs.Claims.{Again, Settled, Alike};
@@ -8,8 +8,8 @@ use crate::write::written;
 use text::draft::Draft;
 use text::refusal::Refusal;
 
-// A refusal in two lines.
-// Kept: a draft, as the written form is.
+/// A refusal as the text of two lines, `refused=NUMBER` and `line=PLACE`.
+// Kept: a draft, since the written form is one, and `answer_to` answers either of the two.
 pub fn refused(refusal: Refusal) -> Draft
     ensures { result ≡ refusal_text refusal }
 {
@@ -19,7 +19,7 @@ pub fn refused(refusal: Refusal) -> Draft
     draft
 }
 
-// What the intake prints for a text: its written form, or the refusal.
+/// What the intake prints for a text: its written form, or its refusal in two lines.
 pub fn answer_to(text: &[u8]) -> Draft
     ensures value { result ≡ answer_text text.now }
     ensures again { Again }

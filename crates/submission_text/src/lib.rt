@@ -1,4 +1,4 @@
-// The text of a submission: reading it, and its written form.
+//! The text of a submission: reading it, and its written form.
 #![tactic(auto)]
 
 pub mod answer;

@@ -1,4 +1,4 @@
-// Reading the text of a submission, line by line.
+//! Reading the text of a submission, line by line.
 ghost use Rattle.std.specs.Prelude.{◌≡◌, ℕ, ◌+◌, ◌≤◌, List, Result, Ok, IfOk, IfErr, OnOk};
 ghost use Rattle.std.specs.Fn.{FnReturnsAt};
 ghost use Rattle.std.specs.Result.{result_map_both as mapped_both};
@@ -108,6 +108,7 @@ fn read_pairs(lines: &mut Lines, count: usize) -> Result<Curve, Refusal>
     Ok(Curve::of(pairs).unwrap())
 }
 
+// The file of four leading figures and a curve.
 fn with_curve(head: Head, curve: Curve) -> SubmissionFile
     ensures { result ≡ file_of head curve }
 {
@@ -123,6 +124,7 @@ fn with_curve(head: Head, curve: Curve) -> SubmissionFile
     }
 }
 
+// The whole file, or the refusal of its first faulty line.
 // Kept: apart from `read`, which draws its other clauses once from the value told here, and not at
 // each of five exits.
 fn read_lines(text: &[u8]) -> Result<SubmissionFile, Refusal>
@@ -144,8 +146,8 @@ fn read_lines(text: &[u8]) -> Result<SubmissionFile, Refusal>
     Ok(with_curve(head, curve))
 }
 
-// The whole file: the leading figures, the number of pairs, that many pairs, and nothing after
-// them. Where it is refused, the first faulty line is told.
+/// What a text submits: it is the four leading figures, the number of pairs, that many pairs, and
+/// nothing after them. Where it is refused, the first faulty line is told.
 pub fn read(text: &[u8]) -> Result<SubmissionFile, Refusal>
     ensures value { result ≡ read_of text.now }
     ensures lines { ReadsLines text.now result }

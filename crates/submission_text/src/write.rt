@@ -1,4 +1,4 @@
-// The written form of a submission file.
+//! The written form of a submission file.
 ghost use Rattle.std.specs.Prelude.{◌≡◌, ◌≤◌, ◌++◌, length};
 ghost use Rattle.text.specs.Drafts.{kept, placed_text, placed_length};
 ghost use Rattle.submission_text.specs.Write.{head, pair_text, head_text, written_form};
@@ -10,7 +10,9 @@ use text::draft::Draft;
 use text::draft::acts::place;
 use text::refusal::TextTooShort;
 
-// Kept: pieces pushed into a draft, which cannot fail; a `Display` may answer an error that `written` has no place for.
+// Puts the line of a pair after the text so far.
+// Kept: pieces pushed into a draft, which cannot fail; a `Display` may answer an error that
+// `written` has no place for.
 fn push_pair(draft: &mut Draft, p: Pair)
     ensures after { draft.new ≡ kept (draft.old ++ pair_text p) }
     ensures short { length (pair_text p) ≤ 28 }
@@ -32,7 +34,7 @@ fn push_head(draft: &mut Draft, file: &SubmissionFile)
     draft.push_line(b"rampdown", file.submission.ramp_down as u64);
 }
 
-// The written form of a file.
+/// The written form of a file: its text with the curve in the place of the pairs.
 pub fn written(file: &SubmissionFile) -> Draft
     ensures { result ≡ written_form file.now }
 {
@@ -46,7 +48,8 @@ pub fn written(file: &SubmissionFile) -> Draft
     draft
 }
 
-// The written form at the front of the caller's memory, and its length.
+/// Puts the written form of a file at the front of the caller's memory, and answers its length in
+/// bytes. Where the memory is too short it is refused, and the memory is left as it was.
 pub fn write(file: &SubmissionFile, out: &mut [u8]) -> Result<usize, TextTooShort>
     ensures value { result ≡ placed_length (written_form file.now) out.old }
     ensures after { out.new ≡ placed_text (written_form file.now) out.old }

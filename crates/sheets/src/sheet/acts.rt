@@ -1,4 +1,4 @@
-// How a sheet is made from a row, and which events have a place in its state.
+//! How a sheet is made from a row, and which events have a place in its state.
 ghost use Rattle.std.specs.Prelude.{◌≡◌, ◌≤◌, length};
 ghost use Rattle.std.specs.Option.{ok_or};
 ghost use Rattle.refusals.specs.declared.Refusal.TheVariants as refusal;
@@ -27,7 +27,7 @@ fn row_sound(register: &Register, row: &Row) -> bool
 }
 
 impl<'a> Sheet<'a> {
-    // The row as a sheet; nothing where it has no state.
+    /// The row as a sheet; `None` where it has no state.
     pub fn checked(register: &'a Register, row: &Row) -> Option<Sheet<'a>>
         ensures { Becomes (sheet_sound (known register.now) (prices_of register.now) row.now)
             register.now row.now result }
@@ -41,14 +41,15 @@ impl<'a> Sheet<'a> {
         })
     }
 
-    // The row, to be written back.
+    /// The row, to be written back.
     pub fn row(&self) -> Row
         ensures { result ≡ row_of self.now }
     {
         self.row
     }
 
-    // The next state, or the refusal of an event that has no place in this one.
+    /// The next state, or the refusal, which names the interval, of an event that has no place in
+    /// this state.
     pub fn next(&self, event: Event, interval: u32) -> Result<State, Refusal>
         ensures { result ≡ ok_or (next (row_of self.now).state event) (refusal.State interval) }
     {
@@ -65,7 +66,7 @@ impl<'a> Sheet<'a> {
 }
 
 impl<'a> Sheet<'a> {
-    // The registered facilities, in the order of their numbers.
+    /// The registered facilities, at most twelve, in the order of their numbers.
     pub fn facilities(&self) -> &[Facility]
         ensures value { result.now ≡ known (register_of self.now) }
         ensures few { length result.now ≤ 12 }
@@ -73,7 +74,7 @@ impl<'a> Sheet<'a> {
         self.register.facilities()
     }
 
-    // Their figures.
+    /// The figures of the registered facilities, in the order of their numbers.
     pub fn figures(&self) -> &[Figures]
         ensures value { result.now ≡ table (register_of self.now) (row_of self.now) }
         ensures each { length result.now ≡ length (known (register_of self.now)) }
@@ -82,28 +83,28 @@ impl<'a> Sheet<'a> {
         &self.row.figures[..n]
     }
 
-    // The positions of accounts 1 to 11.
+    /// The positions of accounts 1 to 11.
     pub fn positions(&self) -> &[Position]
         ensures { result.now ≡ (row_of self.now).positions }
     {
         &self.row.positions
     }
 
-    // Whether somebody has a load.
+    /// Whether some account has a load.
     pub fn has_load(&self) -> bool
         ensures { result ≡ has_load (row_of self.now).positions }
     {
         any_load(&self.row.positions)
     }
 
-    // The demand in kW, where there is one.
+    /// The demand in kW, 1 to 12,000,000; `None` where there is none.
     pub fn demand(&self) -> Option<u32>
         ensures { result ≡ (row_of self.now).demand }
     {
         self.row.demand
     }
 
-    // The kW of all offers.
+    /// The kW of all offers of the registered facilities together.
     pub fn offered(&self) -> u64
         ensures { result ≡ offers (table (register_of self.now) (row_of self.now)) }
     {

@@ -1,5 +1,6 @@
-// One thing of a sheet changed by value. Nothing is answered where the sheet would not take the change.
-// Kept: the changes have one form, but each its own test, field and contract; one function with closures would state a contract over each.
+//! One thing of a sheet changed by value; `None` where the sheet would not take the change.
+// Kept: the changes have one form, but each its own test, field and contract; one function with
+// closures would state a contract over each.
 ghost use Rattle.std.specs.Prelude.{◌≡◌, ◌≢◌, IsTrue, is_some};
 ghost use Rattle.sheets.specs.declared.row.State.TheVariants.{Settled};
 ghost use Rattle.sheets.specs.declared.row.Event.TheVariants.{Close, Settle};
@@ -29,7 +30,9 @@ impl<'a> Sheet<'a> {
         self.after(event).is_some()
     }
 
-    // Another submission of the facility at a place, which the open sheet takes.
+    /// The sheet with another submission of the facility at a place, which is its number less 1.
+    /// `None` where the sheet is not open, the facility is not registered, a ramp or a price is
+    /// outside its span, the curve is out of form, or its kW exceed the capacity.
     pub fn with_submission(self, at: usize, submission: Submission) -> Option<Sheet<'a>>
         ensures { Becomes
             (takes_submission (register_of self.entry) (row_of self.entry) at submission)
@@ -48,7 +51,10 @@ impl<'a> Sheet<'a> {
         Some(Sheet { register, row })
     }
 
-    // Another start level of the facility at a place, in kW, until the sheet is settled.
+    /// The sheet with another start level in kW, 0 to 1,000,000, of the facility at a place, which
+    /// is its number less 1.
+    /// `None` where the sheet is settled, the facility is not registered, or the level is outside
+    /// its span.
     pub fn with_start(self, at: usize, kw: u32) -> Option<Sheet<'a>>
         ensures taken { Becomes (takes_start (register_of self.entry) (row_of self.entry) at kw)
             (register_of self.entry) (with_start (row_of self.entry) at kw) result }
@@ -66,7 +72,9 @@ impl<'a> Sheet<'a> {
         Some(Sheet { register, row })
     }
 
-    // Another reading of the facility at a place, in kWmin; on a settled sheet it corrects the one before.
+    /// The sheet with another reading in kWmin, 0 to 30,000,000, of the facility at a place, which
+    /// is its number less 1; on a settled sheet it corrects the one before.
+    /// `None` where the facility is not registered, or the reading is outside its span.
     pub fn with_reading(self, at: usize, kwmin: u32) -> Option<Sheet<'a>>
         ensures { Becomes (takes_reading (register_of self.entry) at kwmin)
             (register_of self.entry) (with_reading (row_of self.entry) at kwmin) result }
@@ -82,7 +90,8 @@ impl<'a> Sheet<'a> {
         Some(Sheet { register, row })
     }
 
-    // Another demand in kW, which the open sheet takes.
+    /// The sheet with another demand in kW, 1 to 12,000,000.
+    /// `None` where the sheet is not open, or the demand is outside its span.
     pub fn with_demand(self, kw: u32) -> Option<Sheet<'a>>
         ensures { Becomes (takes_demand (row_of self.entry) kw)
             (register_of self.entry) (with_demand (row_of self.entry) kw) result }
@@ -95,7 +104,9 @@ impl<'a> Sheet<'a> {
         Some(Sheet { register, row })
     }
 
-    // Another position of the account at a place, until the sheet is settled.
+    /// The sheet with another position of the account at a place, which is its number less 1.
+    /// `None` where the sheet is settled, there is no such account, or contract or load is outside
+    /// its span.
     pub fn with_position(self, at: usize, position: Position) -> Option<Sheet<'a>>
         ensures { Becomes (takes_position (row_of self.entry) at position)
             (register_of self.entry) (with_position (row_of self.entry) at position) result }
@@ -108,7 +119,8 @@ impl<'a> Sheet<'a> {
         Some(Sheet { register, row })
     }
 
-    // The open sheet, closed.
+    /// The open sheet, closed.
+    /// `None` where the sheet is not open, there is no demand, or the offers do not reach it.
     pub fn closed(self) -> Option<Sheet<'a>>
         ensures { Becomes (may_close (register_of self.entry) (row_of self.entry))
             (register_of self.entry) (row_after (row_of self.entry) Close) result }
@@ -122,7 +134,9 @@ impl<'a> Sheet<'a> {
         Some(Sheet { register, row })
     }
 
-    // The closed sheet, settled.
+    /// The closed sheet, settled.
+    /// `None` where the sheet is not closed, a facility has no reading or has a submission and no
+    /// start, or all loads are zero.
     pub fn settled(self) -> Option<Sheet<'a>>
         ensures { Becomes (may_settle (register_of self.entry) (row_of self.entry))
             (register_of self.entry) (row_after (row_of self.entry) Settle) result }
