@@ -6,11 +6,11 @@ ghost use Rattle.schedule.specs.Stations.{energy_out};
 // Kept: an Option round the first two would only take the third case its name.
 #[derive(Clone, Copy, PartialEq, Eq, Debug)]
 pub enum OutOfMerit {
-    /// The energy above the upper schedule, in kWmin.
+    /// The reading less the upper schedule counts, so much in kWmin.
     Upward(u64),
-    /// The energy below the lower schedule, in kWmin.
+    /// The lower schedule less the reading counts, so much in kWmin.
     Downward(u64),
-    /// No energy counts.
+    /// Neither counts.
     Neither,
 }
 

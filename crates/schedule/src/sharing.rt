@@ -19,8 +19,8 @@ fn share(total: u64, part: u64, whole: u64) -> u64
     (total as u128 * part as u128 / whole as u128) as u64
 }
 
-/// What an account, 1 to 11, bears of a total in cents, in cents: what the accounts up to it bear,
-/// less what those before it bear. The loads are in kWmin.
+/// What an account, 1 to 11, bears of a total, both in cents: what the accounts up to it bear, less
+/// what those before it bear. The loads are in kWmin.
 /// `None` for an account outside 1 to 11, or where all loads are zero.
 pub fn levy(total: u64, loads: &[u32; 11], account: u32) -> Option<u64>
     ensures { result ≡ levies.levy_of total loads.now account }

@@ -6,7 +6,7 @@ use std::marker::Model;
 
 pub mod acts;
 
-/// A text in the making: bytes put one behind the other, 512 at most, of which it keeps what fits.
+/// A text in the making: pieces put one behind the other, of which it keeps the first 512 bytes.
 // Kept: a type of its own, since a draft keeps what fits and cannot fail, where a `fmt::Write`
 // answers an error.
 #[derive(Drop)]
