@@ -10,9 +10,11 @@ use pool::call::{Answer, Call};
 use refusals::Refusal;
 use sheets::register::Register;
 use sheets::row::Row;
+use thiserror::Error;
 
 /// The memory is shorter than the list of calls.
-#[derive(Clone, Copy, PartialEq, Eq, Debug)]
+#[derive(Clone, Copy, PartialEq, Eq, Debug, Error)]
+#[error("the answers of the calls need memory for {needed}")]
 pub struct AnswersTooShort {
     /// How many answers it must hold: as many as there are calls.
     pub needed: usize,
