@@ -1,5 +1,5 @@
-pub mod Pairs
-pub mod Plans
-pub mod Lines
 pub mod Sums
+pub mod Lined
+pub mod Faulty
+pub mod Courses
 pub mod Settles

@@ -1,5 +1,5 @@
 -- What is told over a ledger is told over its balances, or over its lines.
-use Rattle.std.proofs.Common.{◌≡◌, ℕ, min, if◌then◌else◌, List, [], ◌∷◌, ◌++◌, length, take, Some, None, Ok, Err, IfOk, Result, ℤ, pos, replicate, append-nil, refl, sym, ap, ◌∙◌, subst}
+use Rattle.std.proofs.Common.{◌≡◌, ℕ, ◌+◌, min, if◌then◌else◌, List, [], ◌∷◌, ◌++◌, length, take, Some, None, Ok, Err, IfOk, Result, ℤ, pos, replicate, append-nil, append_assoc, refl, sym, ap, ◌∙◌, subst, arith}
 use Rattle.ledger.specs.View.{View, Sound}
 use Rattle.ledger.specs.Posting.{Post}
 use Rattle.ledger.specs.Rows.{Gained}
@@ -16,10 +16,14 @@ use Rattle.pool.specs.declared.call.Call.{Call}
 use Rattle.pool.specs.Day.{Day}
 use Rattle.day.specs.Book.{Book, Answered, fed}
 use Rattle.day.specs.Law.{Heeds, Follows, Law}
-use Rattle.day_file.specs.declared.plan.Asked.{Asked}
-use Rattle.day_file.specs.declared.plan.Plan.{Plan}
-use Rattle.day_file.specs.Plans.{told}
-use Rattle.day_file.specs.Reports.{balances_text, answers_text, lines_from}
+use Rattle.day.specs.Claims.{LawStands}
+use Rattle.answer_text.specs.Answers.{tally_text}
+use Rattle.day_file.specs.declared.course.Course.{Course}
+use Rattle.day_file.specs.declared.tally.Tally.{Tally}
+use Rattle.day_file.specs.declared.terms.Terms.{Terms}
+use Rattle.day_file.specs.Calls.{numbers_on}
+use Rattle.day_file.specs.Reports.{balances_text, answers_text, lines_from, taken_in, refused_in, tally_of}
+use Rattle.day_file.specs.Courses.{IsBlank, Makes, day_of}
 use Rattle.day_file.specs.Settles.{Tells, Prints, PrintsOver, table_seen, balance_by_balance, journal_seen, line_by_line}
 
 pub if_ok : {X E : Type 0} {P Q : X → Type 0} (r : Result X E) → IfOk r P → ((x : X) → P x → Q x) → IfOk r Q
@@ -44,28 +48,43 @@ module _ {L M : Type 0} (view : L → View) (took : L → List Post → L → Ty
       let heeds = subst (λ (u : View). Heeds b u c r (seen (read y))) (same x k) (subst (λ (u : View). Heeds b (view x) c r u) (same y o.0) g.1.1.1.1.0) in
       (rest.0, (read y, (subst Sound (same y o.0) g.1.0, (o.1, (λ e. ap read (g.1.1.1.0 e), (heeds, rest.1))))))
 
-  pub tells_read : (sheets : ℕ) (calls : List Call) (asked : List Asked) (x z : L) (text : List ℕ) → Keeps x → Tells view took sheets calls asked x z text
-      → Keeps z × Tells seen does sheets calls asked (read x) (read z) text
-  tells_read sheets calls asked x z text k t =
+  -- what is printed of the balances, of the ledger and of the tally behind them
+  pub prints_read : (sheets : ℕ) (ss : List (List ℕ)) (x z : L) (c : Course) (behind : M → List ℕ) (text : List ℕ) → Keeps x → Tells view took sheets ss x z c
+      → text ≡ (c.text.items ++ behind (read z)) ++ tally_text c.tally.calls c.tally.taken c.tally.refused
+      → Prints seen does sheets ss (read x) behind text
+  prints_read sheets ss x z c behind text k t e =
       let l = t.law in
-      let f = follows_read _ x calls t.answers z k l.heeded in
+      let f = follows_read _ x t.calls t.answers z k l.heeded in
       let now = same x k in
-      let end = same z f.0 in (
-        f.0,
-        record {
-          answers = t.answers;
-          day = t.day;
-          law = record {
-            sum = sym (ap ledger_sum end) ∙ l.sum ∙ ap ledger_sum now;
-            heeded = f.1;
-            holds = l.holds;
-            gained = gained_seen _ _ _ _ _ now end l.gained;
-            whole = l.whole;
-            least = l.least;
-          };
-          told = t.told ∙ ap (λ (u : View). answers_text asked t.answers ++ balances_text u) end;
-        },
-      )
+      let end = same z f.0 in
+      let answers = answers_text (numbers_on 1 ss) t.answers in
+      let balances = balances_text (seen (read z)) in
+      let told = behind (read z) in
+      let tally : tally_text c.tally.calls c.tally.taken c.tally.refused ≡ tally_of t.answers = ap (λ k. tally_text k c.tally.taken c.tally.refused) t.count ∙ ap (λ k. tally_text (length t.answers) k c.tally.refused) t.taken ∙ ap (tally_text (length t.answers) (taken_in t.answers)) t.refused in
+      let first : c.text.items ≡ answers ++ balances = t.text ∙ ap (λ (u : View). answers ++ balances_text u) end in
+      record {
+        calls = t.calls;
+        said = t.said;
+        answers = t.answers;
+        day = t.day;
+        last = read z;
+        law = record {
+          sum = sym (ap ledger_sum end) ∙ l.sum ∙ ap ledger_sum now;
+          heeded = f.1;
+          holds = l.holds;
+          gained = gained_seen _ _ _ _ _ now end l.gained;
+          whole = l.whole;
+          least = l.least;
+        };
+        printed = e ∙ ap (λ l. (c.text.items ++ told) ++ l) tally ∙ ap (λ l. (l ++ told) ++ tally_of t.answers) first
+            ∙ ap (λ l. l ++ tally_of t.answers) (append_assoc answers balances told) ∙ append_assoc answers (balances ++ told) (tally_of t.answers)
+            ∙ ap (λ l. answers ++ l) (append_assoc balances told (tally_of t.answers));
+      }
+
+-- the tally behind a text
+pub closed : (first last : Course) (text out : List ℕ) → out ≡ last.text.items ++ tally_text last.tally.calls last.tally.taken last.tally.refused → last.text.items ≡ text → last.tally ≡ first.tally
+    → out ≡ text ++ tally_text first.tally.calls first.tally.taken first.tally.refused
+closed first last text out e t k = e ∙ ap (λ l. l ++ tally_text last.tally.calls last.tally.taken last.tally.refused) t ∙ ap (λ (a : Tally). text ++ tally_text a.calls a.taken a.refused) k
 
 -- ---- the account table, by its balances
 abbrev Table : Type 0
@@ -77,21 +96,16 @@ table_sees x = limited x.limits (table_view x.below.balances)
 abbrev table_takes : Table → List Post → Table → Type 0
 table_takes x ps y = (y.below.balances ≡ with_posts x.below.balances ps) × (y.limits ≡ x.limits)
 
-pub settles_table : (plan : Plan) (x z : Table) (text : List ℕ) → plan.terms.journal ≡ None → x.limits ≡ plan.terms.limits → x.below.balances ≡ replicate 12 (pos 0)
-    → Tells table_sees table_takes plan.terms.sheets plan.calls.items plan.asked.items x z text → PrintsOver plan.terms.journal (told plan) text
-settles_table plan x z text none limits zero t =
-    let all = plan.terms.limits in
+pub prints_table : (t : Terms) (ss : List (List ℕ)) (x z : Table) (c : Course) (text : List ℕ) → t.journal ≡ None → x.limits ≡ t.limits → x.below.balances ≡ replicate 12 (pos 0)
+    → Tells table_sees table_takes t.sheets ss x z c → text ≡ c.text.items ++ tally_text c.tally.calls c.tally.taken c.tally.refused
+    → PrintsOver t.journal t ss text
+prints_table t ss x z c text none limits zero tells e =
+    let all = t.limits in
     let balances : Table → List ℤ = λ s. s.below.balances in
-    let read = tells_read table_sees table_takes (table_seen all) balance_by_balance balances (λ s. s.limits ≡ all) (λ s k. ap (λ ls. limited ls (table_view s.below.balances)) k) (λ s ps y k h. (h.1 ∙ k, h.0))
-    plan.terms.sheets plan.calls.items plan.asked.items x z text limits t
-    in subst (λ j. PrintsOver j (told plan) text) (sym none) (record {
-      calls = plan.calls.items;
-      said = refl;
-      last = balances z;
-      first = text;
-      tells = subst (λ (zs : List ℤ). Tells (table_seen all) balance_by_balance plan.terms.sheets plan.calls.items plan.asked.items zs (balances z) text) zero read.1;
-      printed = sym (append-nil text);
-    })
+    let prints = prints_read table_sees table_takes (table_seen all) balance_by_balance balances (λ s. s.limits ≡ all) (λ s k. ap (λ ls. limited ls (table_view s.below.balances)) k) (λ s ps y k h. (h.1 ∙ k, h.0))
+    t.sheets ss x z c (λ zs. []) text limits tells (e ∙ ap (λ l. l ++ tally_text c.tally.calls c.tally.taken c.tally.refused) (sym (append-nil c.text.items)))
+    in subst (λ j. PrintsOver j t ss text) (sym none)
+    (subst (λ (zs : List ℤ). Prints (table_seen all) balance_by_balance t.sheets ss zs (λ zs. []) text) zero prints)
 
 -- ---- a journal, by its lines
 abbrev Lines : Type 0
@@ -107,23 +121,37 @@ lines_take x ps y =
 abbrev pub written : Journal → List Line
 written j = take j.used j.lines.now
 
-pub settles_journal : (plan : Plan) (n : ℕ) (x z : Lines) (first text : List ℕ) → plan.terms.journal ≡ Some n → x.limits ≡ plan.terms.limits → x.below.used ≡ 0 → length x.below.lines.now ≡ n
-    → Tells lines_see lines_take plan.terms.sheets plan.calls.items plan.asked.items x z first → text ≡ first ++ (if plan.terms.print then lines_from 1 (written z.below) else [])
-    → PrintsOver plan.terms.journal (told plan) text
-settles_journal plan n x z first text some limits none long t e =
-    let all = plan.terms.limits in
+-- what is told of the lines
+abbrev pub behind : Terms → List Line → List ℕ
+behind t ls = if t.print then lines_from 1 ls else []
+
+pub prints_journal : (t : Terms) (n : ℕ) (ss : List (List ℕ)) (x z : Lines) (c : Course) (text : List ℕ) → t.journal ≡ Some n → x.limits ≡ t.limits → x.below.used ≡ 0 → length x.below.lines.now ≡ n
+    → Tells lines_see lines_take t.sheets ss x z c → text ≡ (c.text.items ++ behind t (written z.below)) ++ tally_text c.tally.calls c.tally.taken c.tally.refused
+    → PrintsOver t.journal t ss text
+prints_journal t n ss x z c text some limits none long tells e =
+    let all = t.limits in
     let lines : Lines → List Line = λ s. written s.below in
-    let read = tells_read lines_see lines_take (journal_seen all n) line_by_line lines (λ s. (s.limits ≡ all) × (room s.below.lines.now ≡ min n 4096))
+    let prints = prints_read lines_see lines_take (journal_seen all n) line_by_line lines (λ s. (s.limits ≡ all) × (room s.below.lines.now ≡ min n 4096))
     (λ s k. ap (λ ls. limited ls (journal_view s.below.lines.now s.below.used)) k.0 ∙ ap (λ m. limited all (lines_view m (lines s))) k.1)
     (λ s ps y k h. ((h.1 ∙ k.0, ap (λ m. min m 4096) h.0.0.size ∙ k.1), front_stands s.below.lines.now s.below.used ps y.below.lines.now y.below.used s.below.within h.0.0))
-    plan.terms.sheets plan.calls.items plan.asked.items x z first (limits, ap (λ m. min m 4096) long) t
+    t.sheets ss x z c (behind t) text (limits, ap (λ m. min m 4096) long) tells e
     in
     let begun : lines x ≡ [] = ap (λ k. take k x.below.lines.now) none in
-    subst (λ j. PrintsOver j (told plan) text) (sym some) (record {
-      calls = plan.calls.items;
-      said = refl;
-      last = lines z;
-      first = first;
-      tells = subst (λ (ls : List Line). Tells (journal_seen all n) line_by_line plan.terms.sheets plan.calls.items plan.asked.items ls (lines z) first) begun read.1;
-      printed = e;
-    })
+    subst (λ j. PrintsOver j t ss text) (sym some)
+    (subst (λ (ls : List Line). Prints (journal_seen all n) line_by_line t.sheets ss ls (behind t) text) begun prints)
+
+-- ---- blank register and sheets, and lines that make their calls
+module _ {L : Type 0} (view : L → View) (took : L → List Post → L → Type 0) where
+  pub tells : LawStands view took → (sheets : ℕ) (ss : List (List ℕ)) (c d e : Course) (x z : L) → IsBlank sheets c → Makes view took 1 ss c x d z
+      → e.text.items ≡ d.text.items ++ balances_text (view z) → e.tally ≡ d.tally → Tells view took sheets ss x z e
+  tells law sheets ss c d e x z b m told tally = record {
+    calls = m.calls;
+    said = m.said;
+    answers = m.answers;
+    day = day_of d;
+    law = law sheets (day_of c) (day_of d) x z m.calls m.answers b.day m.goes;
+    text = told ∙ ap (λ l. l ++ balances_text (view z)) (m.printed.text ∙ ap (λ l. l ++ answers_text (numbers_on 1 ss) m.answers) b.text);
+    count = let same = ap (λ (t : Tally). t.calls) tally in omega (arith, same, m.printed.calls, b.calls);
+    taken = let same = ap (λ (t : Tally). t.taken) tally in omega (arith, same, m.printed.taken, b.taken);
+    refused = let same = ap (λ (t : Tally). t.refused) tally in omega (arith, same, m.printed.refused, b.refused);
+  }

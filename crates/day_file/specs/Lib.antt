@@ -1,4 +1,7 @@
+pub mod Lines
+pub mod Terms
+pub mod Faults
 pub mod Calls
-pub mod Plans
 pub mod Reports
+pub mod Courses
 pub mod Settles

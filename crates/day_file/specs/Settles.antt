@@ -1,5 +1,5 @@
 -- A day file settled: what is printed of it, for every string of bytes.
-use Rattle.std.specs.Prelude.{◌≡◌, ℕ, min, if◌then◌else◌, List, [], ◌++◌, map, replicate, ℤ, pos, Some, None, Option}
+use Rattle.std.specs.Prelude.{◌≡◌, ℕ, Bool, true, false, min, if◌then◌else◌, List, [], ◌∷◌, ◌++◌, length, map, replicate, ℤ, pos, Some, None, Option}
 use Rattle.ledgers.specs.Limits.{limited}
 use Rattle.ledgers.specs.Tables.{table_view, with_posts}
 use Rattle.journal.specs.declared.line.Line.{Line}
@@ -9,30 +9,43 @@ use Rattle.pool.specs.declared.call.Call.{Call}
 use Rattle.pool.specs.Day.{Day}
 use Rattle.day.specs.Book.{Answered}
 use Rattle.day.specs.Law.{Seen, Took, Law}
-use Rattle.day_file.specs.declared.plan.Asked.{Asked}
-use Rattle.day_file.specs.Calls.{said}
-use Rattle.day_file.specs.Plans.{Planned, planned}
-use Rattle.day_file.specs.Reports.{answers_text, balances_text, lines_from}
+use Rattle.day_file.specs.declared.course.Course.{Course}
+use Rattle.day_file.specs.declared.terms.Terms.{Terms}
+use Rattle.day_file.specs.declared.settled.Reply.{Reply}
+use Rattle.day_file.specs.declared.settled.Reply.TheVariants.{Settled, Faulty}
+use Rattle.day_file.specs.Lines.{lines}
+use Rattle.day_file.specs.Calls.{said, calls_on, numbers_on}
+use Rattle.day_file.specs.Faults.{terms_of, faults_text}
+use Rattle.day_file.specs.Reports.{answers_text, balances_text, lines_from, taken_in, refused_in, tally_of}
 
--- calls on blank sheets and the ledger x, which is z after them, by the law of the day; and the text
--- of their answers and of the balances after them
-pub record Tells {L : Type 0} (view : Seen L) (took : Took L) (sheets : ℕ) (calls : List Call)
-    (asked : List Asked) (x z : L) (text : List ℕ) : Type 0 where
+-- the calls of lines on blank sheets and the ledger x, which is z after them, by the law of the day;
+-- and the text of their answers and of the balances after them
+pub record Tells {L : Type 0} (view : Seen L) (took : Took L) (sheets : ℕ) (ss : List (List ℕ))
+    (x z : L) (c : Course) : Type 0 where
+  -- the calls are those of the lines, in their order
+  pub calls : List Call
+  pub said : map said calls ≡ calls_on ss
   pub answers : List Answered
   pub day : Day
   pub law : Law view took sheets x calls answers day z
-  pub told : text ≡ answers_text asked answers ++ balances_text (view z)
+  pub text : c.text.items ≡ answers_text (numbers_on 1 ss) answers ++ balances_text (view z)
+  pub count : c.tally.calls ≡ length answers
+  pub taken : c.tally.taken ≡ taken_in answers
+  pub refused : c.tally.refused ≡ refused_in answers
 
--- what is printed of a plan over the ledger x, and of the ledger after the calls
-pub record Prints {L : Type 0} (view : Seen L) (took : Took L) (x : L) (behind : L → List ℕ)
-    (p : Planned) (text : List ℕ) : Type 0 where
-  -- the calls are those of the lines, in their order
+-- what is printed of lines over the ledger x: the answers, each on its line, the balances after them,
+-- what is told of the ledger then, and the tally
+pub record Prints {L : Type 0} (view : Seen L) (took : Took L) (sheets : ℕ) (ss : List (List ℕ))
+    (x : L) (behind : L → List ℕ) (text : List ℕ) : Type 0 where
+  -- the calls are those of the lines, in their order, and follow the law of the day
   pub calls : List Call
-  pub said : map said calls ≡ p.calls
+  pub said : map said calls ≡ calls_on ss
+  pub answers : List Answered
+  pub day : Day
   pub last : L
-  pub first : List ℕ
-  pub tells : Tells view took p.terms.sheets calls p.asked x last first
-  pub printed : text ≡ first ++ behind last
+  pub law : Law view took sheets x calls answers day last
+  pub printed : text ≡ answers_text (numbers_on 1 ss) answers
+      ++ (balances_text (view last) ++ (behind last ++ tally_of answers))
 
 -- the account table under credit limits, by its balances
 abbrev pub table_seen : List ℤ → Seen (List ℤ)
@@ -50,15 +63,24 @@ journal_seen limits n ls = limited limits (lines_view (min n 4096) ls)
 abbrev pub line_by_line : Took (List Line)
 line_by_line ls ps ms = ms ≡ ls ++ lines_of ps
 
--- over the account table from zero, or over a journal without a line, whose lines are printed last
--- where they are asked for
-abbrev pub PrintsOver : Option ℕ → Planned → List ℕ → Type 0
-PrintsOver None p text =
-    Prints (table_seen p.terms.limits) balance_by_balance (replicate 12 (pos 0)) (λ zs. []) p text
-PrintsOver (Some n) p text =
-    Prints (journal_seen p.terms.limits n) line_by_line []
-    (λ ls. if p.terms.print then lines_from 1 ls else []) p text
+-- over the account table from zero, or over a journal without a line, whose lines are printed behind
+-- the balances where they are asked for
+abbrev pub PrintsOver : Option ℕ → Terms → List (List ℕ) → List ℕ → Type 0
+PrintsOver None t ss text =
+    Prints (table_seen t.limits) balance_by_balance t.sheets ss (replicate 12 (pos 0)) (λ zs. []) text
+PrintsOver (Some n) t ss text =
+    Prints (journal_seen t.limits n) line_by_line t.sheets ss []
+    (λ ls. if t.print then lines_from 1 ls else []) text
 
--- what is printed of the text of a day file
+-- what is printed of the text of a day file without faults
 abbrev pub Settles : List ℕ → List ℕ → Type 0
-Settles file text = PrintsOver (planned file).terms.journal (planned file) text
+Settles file text = PrintsOver (terms_of file).journal (terms_of file) (lines file) text
+
+abbrev pub is_empty : List ℕ → Bool
+is_empty [] = true
+is_empty (c ∷ cs) = false
+
+-- a file with a faulty line settles nothing: each of its faulty lines is told
+abbrev pub Replies : List ℕ → Reply → Type 0
+Replies file (Settled text) = (is_empty (faults_text file) ≡ true) × Settles file text.items
+Replies file (Faulty text) = (is_empty (faults_text file) ≡ false) × (text.items ≡ faults_text file)

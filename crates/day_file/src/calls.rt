@@ -1,27 +1,17 @@
-// A line of the day file as a call.
-ghost use Rattle.std.specs.Prelude.{◌≡◌, length};
+//! A line of the day file as a call.
+ghost use Rattle.std.specs.Prelude.{◌≡◌};
 ghost use Rattle.std.specs.Option.{option_map};
-ghost use Rattle.day_file.specs.Calls.{said, calling, pairs_in as pairs_in_spec};
+ghost use Rattle.day_file.specs.Calls.{said, calling};
 
 use day_text::line::DayLine;
 use merit::rung::RUNGS;
 use offers::pair::Pair;
 use pool::call::Call;
 
-// How many pairs the line brings.
-pub(crate) fn pairs_in(line: DayLine) -> usize
-    ensures { result ≡ pairs_in_spec line }
-{
-    match line {
-        DayLine::Lodge { pairs, .. } => pairs,
-        _ => 0,
-    }
-}
-
-// The call that a line makes with its pairs, if it makes one.
-// Kept: a line is plain data, a call borrows its pairs; one type for both would be generic over the pairs at each of ten cases.
+// The call that a line makes, a lodge with these pairs.
+// Kept: a line is plain data, a call borrows its pairs; one type for both would be generic over the
+// pairs at each of ten cases.
 pub(crate) fn call_of<'a>(line: DayLine, pairs: &'a [Pair]) -> Option<Call<'a>>
-    requires { length pairs.now ≡ pairs_in_spec line }
     ensures { option_map said result ≡ calling line pairs.now }
 {
     Some(match line {
@@ -42,7 +32,6 @@ pub(crate) fn call_of<'a>(line: DayLine, pairs: &'a [Pair]) -> Option<Call<'a>>
             interval,
             ramp_up,
             ramp_down,
-            pairs: _,
         } => Call::Lodge {
             facility,
             interval,

@@ -1,11 +1,13 @@
-// A day file as a whole: what it asks for, and the text that it is answered.
+//! A day file as a whole: what is wrong with its lines, or the text that its calls are answered.
 #![tactic(auto)]
 
 mod calls;
-mod plan;
-mod reading;
+mod course;
+mod faults;
+mod lines;
 mod report;
 pub mod settled;
+mod tally;
 mod terms;
 #[cfg(test)]
 mod tests;

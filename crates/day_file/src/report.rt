@@ -1,35 +1,14 @@
-// What is printed of a day: the answers, the balances after it, and the lines of its journal.
+//! What is printed of a day behind its answers: the balances after it, the lines of its journal, and
+//! the tally of its calls.
 ghost use Rattle.std.specs.Prelude.{◌≡◌, ◌++◌, OnOk};
-ghost use Rattle.day_file.specs.Reports.{answers_text, balances_text, lines_from};
+ghost use Rattle.answer_text.specs.Answers.{tally_text};
+ghost use Rattle.day_file.specs.Reports.{balances_text, lines_from};
 
-use crate::plan::Asked;
-use answer_text::{answer_line, balance_line, journal_line, not_a_call, sum_line};
+use crate::tally::Tally;
+use answer_text::{balance_line, journal_line, sum_line, tally_line};
 use journal::line::Line;
 use ledger::accounts::Accounts;
-use pool::call::Answer;
-use refusals::Refusal;
 use std::alloc::AllocError;
-
-pub fn push_answers(
-    out: &mut Vec<u8>,
-    asked: &[Asked],
-    answers: &[Result<Answer, Refusal>],
-) -> Result<(), AllocError>
-    ensures { OnOk result (out.new.items ≡ out.old.items ++ answers_text asked.now answers.now) }
-{
-    let mut answers = answers.iter();
-    for asked in asked {
-        match *asked {
-            Asked::NotACall(number) => out.extend_from_slice(not_a_call(number).bytes())?,
-            Asked::Call(number) => {
-                if let Some(answer) = answers.next() {
-                    out.extend_from_slice(answer_line(number, *answer).bytes())?;
-                }
-            }
-        }
-    }
-    Ok(())
-}
 
 // The balances of all accounts, and their sum, which 64 accounts cannot make too large.
 pub fn push_balances<L: Accounts>(out: &mut Vec<u8>, ledger: &L) -> Result<(), AllocError>
@@ -53,5 +32,14 @@ pub fn push_journal(out: &mut Vec<u8>, lines: &[Line]) -> Result<(), AllocError>
     for (number, line) in (1..).zip(lines) {
         out.extend_from_slice(journal_line(number, line.account, line.cents).bytes())?;
     }
+    Ok(())
+}
+
+// The last line.
+pub fn push_tally(out: &mut Vec<u8>, tally: Tally) -> Result<(), AllocError>
+    ensures { OnOk result (out.new.items
+        ≡ out.old.items ++ tally_text tally.calls tally.taken tally.refused) }
+{
+    out.extend_from_slice(tally_line(tally.calls, tally.taken, tally.refused).bytes())?;
     Ok(())
 }

@@ -1,45 +1,63 @@
-// A day file settled: its text in, the text of its answers out.
+//! A day file settled: its text in, the text that it is answered out.
 ghost use Rattle.std.specs.Prelude.{◌≡◌, IfOk, Some, None};
-ghost use Rattle.day_file.specs.Plans.{told};
-ghost use Rattle.day_file.specs.Settles.{Tells, PrintsOver, Settles};
+ghost use Rattle.day_file.specs.Lines.{lines as lines_of};
+ghost use Rattle.day_file.specs.Settles.{Tells, PrintsOver, Replies};
 
-use crate::plan::Plan;
-use crate::reading::plan;
-use crate::report::{push_answers, push_balances, push_journal};
-use day::whole::whole_day;
+use crate::course::Course;
+use crate::faults::checked;
+use crate::report::{push_balances, push_journal, push_tally};
+use crate::terms::Terms;
+use day::claims::law_stands;
 use journal::journal::Journal;
 use journal::line::Line;
 use ledger::accounts::Ledger;
 use ledgers::limit::CreditLimit;
 use ledgers::table::AccountTable;
-use offers::pair::Pair;
-use sheets::row::Row;
 use std::alloc::{AllocError, Global};
 
+/// The text that a day file is answered.
+#[derive(Drop)]
+pub enum Reply {
+    /// The file has no faulty line. Its calls were made: what each was answered, the balances, the
+    /// journal's lines where they were asked for, and the tally.
+    Settled(Vec<u8>),
+    /// The file has faulty lines, and no call was made: what is wrong with each of them.
+    Faulty(Vec<u8>),
+}
+
 // Makes the calls over the ledger, and tells what they answer and the balances after them.
-fn settle_over<L: Ledger>(heap: Global, plan: &Plan, ledger: &mut L) -> Result<Vec<u8>, AllocError>
-    ensures { IfOk result (λ text. Tells L.view L.took plan.now.terms.sheets plan.now.calls.items plan.now.asked.items ledger.old ledger.new text.items) }
+fn settle_over<L: Ledger>(
+    heap: Global,
+    file: &[u8],
+    sheets: usize,
+    ledger: &mut L,
+) -> Result<Course, AllocError>
+    ensures { IfOk result (λ course. Tells L.view L.took sheets (lines_of file.now)
+        ledger.old ledger.new course) }
 {
-    let mut rows = vec![in heap; Row::blank(); plan.terms.sheets]?;
-    let answers = whole_day(heap, rows.as_mut_slice(), ledger, plan.calls.as_slice())?;
-    let mut text = Vec::new(heap);
-    push_answers(&mut text, plan.asked.as_slice(), answers.as_slice())?;
-    push_balances(&mut text, ledger)?;
-    Ok(text)
+    law_stands::<L>();
+    let mut course = Course::blank(heap, sheets)?;
+    course.run(heap, ledger, file)?;
+    push_balances(&mut course.text, ledger)?;
+    Ok(course)
 }
 
-fn over_table(heap: Global, plan: &Plan) -> Result<Vec<u8>, AllocError>
-    requires { plan.now.terms.journal ≡ None }
-    ensures { IfOk result (λ text. PrintsOver plan.now.terms.journal (told plan.now) text.items) }
+fn over_table(heap: Global, file: &[u8], terms: &Terms) -> Result<Vec<u8>, AllocError>
+    requires { terms.now.journal ≡ None }
+    ensures { IfOk result (λ text.
+        PrintsOver terms.now.journal terms.now (lines_of file.now) text.items) }
 {
-    let mut ledger = CreditLimit::new(AccountTable::new(), plan.terms.limits);
-    settle_over(heap, plan, &mut ledger)
+    let mut ledger = CreditLimit::new(AccountTable::new(), terms.limits);
+    let mut course = settle_over(heap, file, terms.sheets, &mut ledger)?;
+    push_tally(&mut course.text, course.tally)?;
+    Ok(course.text)
 }
 
-// The journal's lines are told behind the balances where the plan asks for them.
-fn over_journal(heap: Global, plan: &Plan, lines: u32) -> Result<Vec<u8>, AllocError>
-    requires { plan.now.terms.journal ≡ Some lines }
-    ensures { IfOk result (λ text. PrintsOver plan.now.terms.journal (told plan.now) text.items) }
+// The journal's lines are told behind the balances where they are asked for.
+fn over_journal(heap: Global, file: &[u8], terms: &Terms, lines: u32) -> Result<Vec<u8>, AllocError>
+    requires { terms.now.journal ≡ Some lines }
+    ensures { IfOk result (λ text.
+        PrintsOver terms.now.journal terms.now (lines_of file.now) text.items) }
 {
     let unused = Line {
         account: 0,
@@ -47,24 +65,28 @@ fn over_journal(heap: Global, plan: &Plan, lines: u32) -> Result<Vec<u8>, AllocE
     };
     let mut memory = vec![in heap; unused; lines as usize]?;
     let journal = Journal::new(memory.as_mut_slice());
-    let mut ledger = CreditLimit::new(journal, plan.terms.limits);
-    let mut text = settle_over(heap, plan, &mut ledger)?;
+    let mut ledger = CreditLimit::new(journal, terms.limits);
+    let mut course = settle_over(heap, file, terms.sheets, &mut ledger)?;
     let journal = ledger.into_below();
-    if plan.terms.print {
-        push_journal(&mut text, journal.posted())?;
+    if terms.print {
+        push_journal(&mut course.text, journal.posted())?;
     }
-    Ok(text)
+    push_tally(&mut course.text, course.tally)?;
+    Ok(course.text)
 }
 
-// Makes the calls of the file, and answers what is printed of them. For want of memory nothing is answered.
-pub fn settle(heap: Global, file: &[u8]) -> Result<Vec<u8>, AllocError>
-    ensures { IfOk result (λ text. Settles file.now text.items) }
+/// Makes the calls of the file, or tells its faulty lines and makes none. For want of memory nothing
+/// is answered.
+pub fn settle(heap: Global, file: &[u8]) -> Result<Reply, AllocError>
+    ensures { IfOk result (λ reply. Replies file.now reply) }
 {
-    let none = Pair { price: 0, kw: 0 };
-    let mut memory = vec![in heap; none; file.len()]?;
-    let plan = plan(heap, file, memory.as_mut_slice())?;
-    match plan.terms.journal {
-        Some(lines) => over_journal(heap, &plan, lines),
-        None => over_table(heap, &plan),
+    let (terms, faults) = checked(heap, file)?;
+    if !faults.is_empty() {
+        return Ok(Reply::Faulty(faults));
     }
+    let text = match terms.journal {
+        Some(lines) => over_journal(heap, file, &terms, lines)?,
+        None => over_table(heap, file, &terms)?,
+    };
+    Ok(Reply::Settled(text))
 }

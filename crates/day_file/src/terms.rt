@@ -1,7 +1,9 @@
-// What a day file asks for beside its calls: how many sheets, which ledger, and its credit limits.
+//! What a day file asks for beside its calls: how many sheets, which ledger, and its credit limits.
 ghost use Rattle.std.specs.Prelude.{◌≡◌};
-ghost use Rattle.day_file.specs.Plans as plans;
+ghost use Rattle.day_file.specs.Terms as terms;
 
+use day_text::fault::Fault;
+use day_text::line::DayLine;
 use ledger::accounts::MOST;
 
 // How far the file has come.
@@ -18,6 +20,7 @@ pub enum Stage {
 pub struct Terms {
     pub stage: Stage,
     pub sheets: usize,
+    // By account, in cents.
     pub limits: [i64; 64],
     // How many lines of memory the journal has; the account table where there is none.
     pub journal: Option<u32>,
@@ -28,7 +31,7 @@ pub struct Terms {
 impl Terms {
     // 48 sheets, the account table, and no limit that binds.
     pub fn blank() -> Terms
-        ensures { result ≡ plans.blank_terms }
+        ensures { result ≡ terms.blank_terms }
     {
         Terms {
             stage: Stage::NoLine,
@@ -39,67 +42,78 @@ impl Terms {
         }
     }
 
-    pub fn at(self, stage: Stage) -> Terms
-        ensures { result ≡ plans.at_stage self stage }
+    fn at(self, stage: Stage) -> Terms
+        ensures { result ≡ terms.at_stage self stage }
     {
         Terms { stage, ..self }
     }
 
-    // After a line that is no call; no `sheets` may come then.
-    pub fn past_a_line(self) -> Terms
-        ensures { result ≡ plans.past_a_line self }
+    fn with_sheets(self, count: u32) -> Result<Terms, Fault>
+        ensures { result ≡ terms.with_sheets self count }
     {
-        if self.stage == Stage::NoLine {
-            self.at(Stage::NoCall)
-        } else {
-            self
+        if self.stage != Stage::NoLine {
+            return Err(Fault::SheetsTooLate);
         }
-    }
-
-    // Nothing where a line has come before.
-    pub fn with_sheets(self, count: u32) -> Option<Terms>
-        ensures { result ≡ plans.with_sheets self count }
-    {
         let sheets = count as usize;
-        (self.stage == Stage::NoLine).then_some(Terms {
+        Ok(Terms {
             sheets,
             ..self.at(Stage::NoCall)
         })
     }
 
-    // Nothing where a call has come before; an account that no ledger has changes nothing.
-    pub fn with_limit(self, account: u32, cents: i64) -> Option<Terms>
-        ensures { result ≡ plans.with_limit self account cents }
+    // The ledgers here have twelve accounts.
+    fn with_limit(self, account: u32, cents: i64) -> Result<Terms, Fault>
+        ensures { result ≡ terms.with_limit self account cents }
     {
-        let mut limits = self.limits;
-        let account = account as usize;
-        // Kept: by `get_mut` it stayed open what the limits are after the write (`returns-in-Some`).
-        if account < limits.len() {
-            limits[account] = cents;
+        if self.stage == Stage::Calls {
+            return Err(Fault::LimitTooLate);
         }
-        (self.stage != Stage::Calls).then_some(Terms {
+        if account >= 12 {
+            return Err(Fault::NoAccount { account });
+        }
+        let mut limits = self.limits;
+        limits[account as usize] = cents;
+        Ok(Terms {
             limits,
             ..self.at(Stage::NoCall)
         })
     }
 
-    // Nothing where a call has come before.
-    pub fn with_journal(self, lines: u32) -> Option<Terms>
-        ensures { result ≡ plans.with_journal self lines }
+    fn with_journal(self, lines: u32) -> Result<Terms, Fault>
+        ensures { result ≡ terms.with_journal self lines }
     {
-        (self.stage != Stage::Calls).then_some(Terms {
+        if self.stage == Stage::Calls {
+            return Err(Fault::LedgerTooLate);
+        }
+        Ok(Terms {
             journal: Some(lines),
             ..self.at(Stage::NoCall)
         })
     }
 
-    // Nothing where there is no journal to print.
-    pub fn printing(self) -> Option<Terms>
-        ensures { result ≡ plans.printing self }
+    fn printing(self) -> Result<Terms, Fault>
+        ensures { result ≡ terms.printing self }
     {
-        self.journal.is_some().then_some(Terms {
+        if self.journal.is_none() {
+            return Err(Fault::NoJournalLedger);
+        }
+        Ok(Terms {
             print: true,
             ..self
         })
+    }
+
+    // The terms after a line, or what is wrong with its place.
+    pub fn with(self, line: DayLine) -> Result<Terms, Fault>
+        ensures { result ≡ terms.with_line self line }
+    {
+        match line {
+            DayLine::Blank => Ok(self),
+            DayLine::Sheets { count } => self.with_sheets(count),
+            DayLine::Limit { account, cents } => self.with_limit(account, cents),
+            DayLine::Journal { lines } => self.with_journal(lines),
+            DayLine::PrintJournal => self.printing(),
+            _ => Ok(self.at(Stage::Calls)),
+        }
     }
 }
