@@ -181,11 +181,11 @@ mod tests {
         for (bytes, line) in [("abc", 1), ("a\nb", 2), ("\n\n\n", 4), ("", 1)] {
             let mut source = Source::new(bytes.as_bytes(), 2);
             source.fails = true;
-            let unread = read_all(rt.alloc(), &mut source).unwrap_err();
+            let unread = read_all(rt.alloc(), &mut source).expect_err(&rt, "an error");
             assert_eq!(rt; unread.line, line, "all of {bytes:?}");
             let mut source = Source::new(bytes.as_bytes(), 2);
             source.fails = true;
-            let unread = read_front(rt.alloc(), &mut source, 4).unwrap_err();
+            let unread = read_front(rt.alloc(), &mut source, 4).expect_err(&rt, "an error");
             assert_eq!(rt; unread.line, line, "the front of {bytes:?}");
             let said = format!(in rt.alloc(); "{unread}")?;
             let wanted = format!(in rt.alloc();
@@ -215,17 +215,17 @@ mod tests {
     fn cut_texts(rt: HostRuntime) {
         let mut sink = Sink::new(rt.alloc(), 2);
         sink.room = 3;
-        let error = write_all(&mut sink, b"abcde").unwrap_err();
+        let error = write_all(&mut sink, b"abcde").expect_err(&rt, "an error");
         assert!(rt; error.kind() == ErrorKind::Other && sink.flushes == 0);
         assert!(rt; sink.held.as_slice() == b"abc".as_slice());
 
         let mut sink = Sink::new(rt.alloc(), 0);
-        let error = write_all(&mut sink, b"abcde").unwrap_err();
+        let error = write_all(&mut sink, b"abcde").expect_err(&rt, "an error");
         assert!(rt; error.kind() == ErrorKind::WriteZero && sink.held.is_empty());
 
         let mut sink = Sink::new(rt.alloc(), 2);
         sink.sticks = true;
-        let error = write_all(&mut sink, b"abcde").unwrap_err();
+        let error = write_all(&mut sink, b"abcde").expect_err(&rt, "an error");
         assert!(rt; error.kind() == ErrorKind::Other);
         assert!(rt; sink.held.as_slice() == b"abcde".as_slice());
     }
