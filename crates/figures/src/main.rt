@@ -1,28 +1,22 @@
-// Prints the worked figures: what the library's calls compute, compared with what it should be.
+//! Prints the worked figures: what the library's calls compute, compared with what it should be.
 #![tactic(auto)]
 
-ghost use Rattle.std.specs.Prelude.{OnOk};
-ghost use Rattle.std.specs.Io.KnownBytes.{Appends};
-ghost use Rattle.worked_figures.specs.All.{worked_report};
+use programs::command_line::{source_asked, unanswered, words_given};
+use programs::figures::{PROGRAM, print_figures};
+use std::process::ExitCode;
+use worked_figures::cases::CASES;
 
-use std::alloc::Global;
-use std::io::Write;
-use worked_figures::all::worked_report;
-use worked_figures::cases::{CASES, Case};
-
-// Writes each figure of the lists on a line of its own, then the tally, and nothing else.
-fn write_figures<W: Write>(heap: Global, out: &mut W, stations: &[Case]) -> anyhow::Result<()>
-    ensures { OnOk result
-        (Appends (W.contents out.old) (W.contents out.new) (worked_report stations.now)) }
-{
-    let text = worked_report(heap, stations)?;
-    out.write_all(text.as_slice())?;
-    Ok(())
+fn run(rt: &HostRuntime) -> Result<(), ExitCode> {
+    let words = words_given(rt)?;
+    let source = source_asked(rt, PROGRAM, words.as_slice())?;
+    print_figures(rt.alloc(), &mut rt.stdout(), &CASES).map_err(|error| unanswered(
+        rt, source, &error,
+    ))
 }
 
-fn main(rt: HostRuntime) -> anyhow::Result<()> {
-    let mut out = rt.stdout();
-    write_figures(rt.alloc(), &mut out, &CASES)?;
-    out.flush()?;
-    Ok(())
+fn main(rt: HostRuntime) -> ExitCode {
+    match run(&rt) {
+        Ok(()) => ExitCode::SUCCESS,
+        Err(status) => status,
+    }
 }

@@ -1,37 +1,26 @@
-// The intake: a submission file on standard input, its written form or the refusal on standard output.
+//! The intake: a submission file on standard input or of the name given, its written form or the refusal on standard output.
 #![tactic(auto)]
 
-ghost use Rattle.std.specs.Prelude.{◌≤◌, length, IfOk};
+use programs::command_line::{source_asked, unanswered, words_given};
+use programs::failure::ProgramError;
+use programs::input::{Source, open};
+use programs::intake::{PROGRAM, answer_submission};
+use std::process::ExitCode;
 
-use std::io;
-use std::io::{Read, Write};
-use submission_text::answer::answer_to;
+fn answer(rt: &HostRuntime, source: Source<'_>) -> Result<(), ProgramError> {
+    let mut input = open(rt, source)?;
+    answer_submission(rt.alloc(), &mut input, &mut rt.stdout())
+}
 
-// Fills the memory from the front until it is full or the input ends, and answers how much came.
-// A pipe may hand over fewer bytes than are asked for, so one read is not enough.
-// Kept: of std's methods that read on, `read_to_end` takes a Vec, and `read_exact` refuses an input that ends early.
-fn fill<R: Read>(input: &mut R, memory: &mut [u8]) -> io::Result<usize>
-    ensures { IfOk result (λ n. n ≤ length memory.old) }
-{
-    let mut n = 0;
-    while n < memory.len() {
-        let got = input.read(&mut memory[n..])?;
-        if got == 0 {
-            break;
-        }
-        n += got;
+fn run(rt: &HostRuntime) -> Result<(), ExitCode> {
+    let words = words_given(rt)?;
+    let source = source_asked(rt, PROGRAM, words.as_slice())?;
+    answer(rt, source).map_err(|error| unanswered(rt, source, &error))
+}
+
+fn main(rt: HostRuntime) -> ExitCode {
+    match run(&rt) {
+        Ok(()) => ExitCode::SUCCESS,
+        Err(status) => status,
     }
-    Ok(n)
-}
-
-// What comes after the first 4,096 bytes is not looked at.
-fn run(rt: &HostRuntime) -> anyhow::Result<()> {
-    let mut text = [0; 4096];
-    let n = fill(&mut rt.stdin(), &mut text)?;
-    rt.stdout().write_all(answer_to(&text[0..n]).bytes())?;
-    Ok(())
-}
-
-fn main(rt: HostRuntime) -> anyhow::Result<()> {
-    run(&rt)
 }

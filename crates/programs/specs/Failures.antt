@@ -1,0 +1,11 @@
+-- Why a program gave no answer.
+use Rattle.std.specs.Prelude.{⊤}
+use Rattle.programs.specs.declared.failure.ProgramError.{ProgramError}
+use Rattle.programs.specs.declared.failure.ProgramError.TheVariants.{Unopened, Unread, Unwritten, Memory}
+
+-- said where the input could not be read
+abbrev pub OnUnread : ProgramError → Type 0 → Type 0
+OnUnread (Unopened _) P = ⊤
+OnUnread (Unread _) P = P
+OnUnread (Unwritten _) P = ⊤
+OnUnread (Memory _) P = ⊤
