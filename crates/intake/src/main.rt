@@ -1,4 +1,4 @@
-//! The intake: a submission file on standard input or of the name given, its written form or the refusal on standard output.
+//! The intake: a submission file in, its written form or the refusal on standard output.
 #![tactic(auto)]
 
 use programs::command_line::{source_asked, unanswered, words_given};

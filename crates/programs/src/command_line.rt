@@ -55,8 +55,8 @@ fn command<'a>(heap: Global, program: Program<'a>) -> Result<Command<'a>, AllocE
     }
 }
 
-/// What the words ask the program for. The first of them is the name that it was called by. An `Err`
-/// is one of memory.
+/// What the words ask the program for. The first of them is the name that it was called by. An
+/// `Err` is one of memory.
 pub fn asked_by<'a, S: AsStr>(
     heap: Global,
     program: Program<'a>,
@@ -84,12 +84,13 @@ pub fn words_given<R: AllocGlobal + Env + Eprint>(rt: &R) -> Result<Vec<String>,
     }
 }
 
+// All words, as they were given.
 fn words<R: AllocGlobal + Env>(rt: &R) -> io::Result<Vec<String>> {
     Ok(env::args(rt)?.collect(rt.alloc())?)
 }
 
-/// The input that the words ask the program to answer. Where they ask for something else that is told,
-/// and the `Err` is the exit status: 0 for the help and the version, and 1 for what is wrong.
+/// The input that the words ask the program to answer. Where they ask for something else that is
+/// told, and the `Err` is the exit status: 0 for the help and the version, and 1 for what is wrong.
 pub fn source_asked<'a, R: AllocGlobal + Print + Eprint>(
     rt: &R,
     program: Program<'a>,
@@ -117,7 +118,7 @@ pub fn unanswered<R: Eprint>(rt: &R, source: Source<'_>, error: &ProgramError) -
     }
 }
 
-// Tells what is wrong on standard error. Where that fails too, only the exit status is left to tell it.
+// Tells what is wrong on standard error. Where that fails too, only the exit status tells it.
 fn failed<R: Eprint, D: fmt::Display + Drop>(rt: &R, told: D) -> ExitCode {
     let _ = rt.eprintln(told);
     ExitCode::FAILURE

@@ -15,7 +15,7 @@ use worked_figures::cases::Case;
 /// What the program tells about itself.
 pub const PROGRAM: Program<'static> = Program {
     name: "figures",
-    about: "Prints the worked figures: what the library's calls compute, compared with what it should be.",
+    about: "Prints the worked figures: what the library computes, compared with what it should be.",
     takes_file: false,
     after_help: None,
 };

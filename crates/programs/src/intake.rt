@@ -16,7 +16,7 @@ use submission_text::answer::answer_to;
 /// What the program tells about itself.
 pub const PROGRAM: Program<'static> = Program {
     name: "intake",
-    about: "Writes the one written form of a submission file, or the number and line of its refusal.",
+    about: "Writes a submission file's one written form, or the number and line of its refusal.",
     takes_file: true,
     after_help: None,
 };
@@ -24,8 +24,8 @@ pub const PROGRAM: Program<'static> = Program {
 /// The most bytes of a submission file that are looked at.
 pub const MOST: u64 = 4096;
 
-/// Reads a submission file's first 4,096 bytes, and writes what the intake answers to them. After an
-/// `Err` of reading nothing was written, and after one of writing a front of the answer was.
+/// Reads a submission file's first 4,096 bytes, and writes what the intake answers to them. After
+/// an `Err` of reading nothing was written, and after one of writing a front of the answer was.
 pub fn answer_submission<R: Read, W: Write>(
     heap: Global,
     input: &mut R,

@@ -39,7 +39,7 @@ mod tests {
         b"facility=1\ninterval=14\nrampup=2000\nrampdown=2500\npairs=2\npair=3200:20000\npair=6000:15000\n";
 
     const HELP: &str =
-        "text Writes the one written form of a submission file, or the number and line of its refusal.
+        "text Writes a submission file's one written form, or the number and line of its refusal.
 
 Usage: intake [FILE]
 

@@ -97,8 +97,8 @@ pub fn read_all<R: Read>(heap: Global, input: &mut R) -> Result<Vec<u8>, Unread>
     }
 }
 
-/// The first `most` bytes of what is left of the input, or all where there are fewer. The bytes after
-/// them stay unread. An `Err` is as that of `read_all`.
+/// The first `most` bytes of what is left of the input, or all where there are fewer. The bytes
+/// after them stay unread. An `Err` is as that of `read_all`.
 pub fn read_front<R: Read>(heap: Global, input: &mut R, most: u64) -> Result<Vec<u8>, Unread>
     ensures front { IfOk result (λ text.
         IfSome (R.remaining input.old) (λ bytes. text.items ≡ take most bytes)) }
