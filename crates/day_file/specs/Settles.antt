@@ -84,3 +84,8 @@ is_empty (c ∷ cs) = false
 abbrev pub Replies : List ℕ → Reply → Type 0
 Replies file (Settled text) = (is_empty (faults_text file) ≡ true) × Settles file text.items
 Replies file (Faulty text) = (is_empty (faults_text file) ≡ false) × (text.items ≡ faults_text file)
+
+-- the text that a file is answered
+abbrev pub text_of : Reply → List ℕ
+text_of (Settled text) = text.items
+text_of (Faulty text) = text.items

@@ -1,7 +1,7 @@
 //! A day file settled: its text in, the text that it is answered out.
 ghost use Rattle.std.specs.Prelude.{◌≡◌, IfOk, Some, None};
 ghost use Rattle.day_file.specs.Lines.{lines as lines_of};
-ghost use Rattle.day_file.specs.Settles.{Tells, PrintsOver, Replies};
+ghost use Rattle.day_file.specs.Settles.{Tells, PrintsOver, Replies, text_of};
 
 use crate::course::Course;
 use crate::faults::checked;
@@ -23,6 +23,17 @@ pub enum Reply {
     Settled(Vec<u8>),
     /// The file has faulty lines, and no call was made: what is wrong with each of them.
     Faulty(Vec<u8>),
+}
+
+impl Reply {
+    /// The text that the file is answered.
+    pub fn text(&self) -> &[u8]
+        ensures { result.now ≡ text_of self.now }
+    {
+        match self {
+            Reply::Settled(text) | Reply::Faulty(text) => text.as_slice(),
+        }
+    }
 }
 
 // Makes the calls over the ledger, and tells what they answer and the balances after them.

@@ -9,3 +9,10 @@ OnUnread (Unopened _) P = ⊤
 OnUnread (Unread _) P = P
 OnUnread (Unwritten _) P = ⊤
 OnUnread (Memory _) P = ⊤
+
+-- one thing where the answer could not be written, and another where there was none yet
+abbrev pub ByFailure : ProgramError → Type 0 → Type 0 → Type 0
+ByFailure (Unopened _) P Q = Q
+ByFailure (Unread _) P Q = Q
+ByFailure (Unwritten _) P Q = P
+ByFailure (Memory _) P Q = Q

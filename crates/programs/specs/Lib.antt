@@ -1,2 +1,3 @@
 pub mod Failures
 pub mod Sources
+pub mod Days

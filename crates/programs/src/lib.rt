@@ -6,3 +6,4 @@ pub mod failure;
 pub mod figures;
 pub mod input;
 pub mod intake;
+pub mod settling;

@@ -1,34 +1,28 @@
-// Settles a day: a day file on standard input, what it is answered on standard output.
+//! Settles a day: a day file in, what it is answered on standard output.
 #![tactic(auto)]
 
-use day_file::settled::settle;
-use std::io::{Read, Write};
+use day_file::settled::Reply;
+use programs::command_line::{source_asked, unanswered, words_given};
+use programs::failure::ProgramError;
+use programs::input::{Source, open};
+use programs::settling::{PROGRAM, answer_day};
+use std::process::ExitCode;
 
-// The number of the line that the last byte stands on, or that would come next.
-fn line_reached(text: &[u8]) -> usize {
-    let ended = text.iter().filter(|b| **b == b'\n').count();
-    ended.saturating_add(1)
+fn answer(rt: &HostRuntime, source: Source<'_>) -> Result<Reply, ProgramError> {
+    let mut input = open(rt, source)?;
+    answer_day(rt.alloc(), &mut input, &mut rt.stdout())
 }
 
-// All of standard input. Where it cannot be read, the error says how far it could.
-fn read_input(rt: &HostRuntime) -> anyhow::Result<Vec<u8>> {
-    let mut text = Vec::new(rt.alloc());
-    rt.stdin().read_to_end(&mut text).map_err(|error| {
-        let line = line_reached(text.as_slice());
-        anyhow::anyhow!("cannot read line {line} of the day file: {error}")
-    })?;
-    Ok(text)
+fn run(rt: &HostRuntime) -> Result<Reply, ExitCode> {
+    let words = words_given(rt)?;
+    let source = source_asked(rt, PROGRAM, words.as_slice())?;
+    answer(rt, source).map_err(|error| unanswered(rt, source, &error))
 }
 
-fn run(rt: &HostRuntime) -> anyhow::Result<()> {
-    let file = read_input(rt)?;
-    let text = settle(rt.alloc(), file.as_slice())?;
-    let mut out = rt.stdout();
-    out.write_all(text.as_slice())?;
-    out.flush()?;
-    Ok(())
-}
-
-fn main(rt: HostRuntime) -> anyhow::Result<()> {
-    run(&rt)
+fn main(rt: HostRuntime) -> ExitCode {
+    match run(&rt) {
+        Ok(Reply::Settled(_)) => ExitCode::SUCCESS,
+        Ok(Reply::Faulty(_)) => ExitCode::FAILURE,
+        Err(status) => status,
+    }
 }
