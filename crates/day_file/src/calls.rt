@@ -8,7 +8,7 @@ use merit::rung::RUNGS;
 use offers::pair::Pair;
 use pool::call::Call;
 
-// The call that a line makes, a lodge with these pairs.
+/// The call that a line makes, a lodge with these pairs.
 // Kept: a line is plain data, a call borrows its pairs; one type for both would be generic over the
 // pairs at each of ten cases.
 pub(crate) fn call_of<'a>(line: DayLine, pairs: &'a [Pair]) -> Option<Call<'a>>

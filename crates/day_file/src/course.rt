@@ -20,11 +20,16 @@ use sheets::register::Register;
 use sheets::row::Row;
 use std::alloc::{AllocError, Global};
 
+/// A day under way.
 #[derive(Drop)]
 pub struct Course {
+    /// The facilities and the prices so far.
     pub register: Register,
+    /// The sheets, one for each interval.
     pub rows: Vec<Row>,
+    /// What is printed so far.
     pub text: Vec<u8>,
+    /// The calls so far.
     pub tally: Tally,
 }
 
@@ -44,7 +49,7 @@ fn made<L: Ledger>(
 }
 
 impl Course {
-    // No call is made yet.
+    /// No call is made yet.
     pub fn blank(heap: Global, sheets: usize) -> Result<Course, AllocError>
         ensures { IfOk result (λ c. IsBlank sheets c) }
     {
@@ -91,7 +96,7 @@ impl Course {
         }
     }
 
-    // Makes the calls of all lines, one after the other.
+    /// Makes the calls of all lines, one after the other.
     pub fn run<L: Ledger>(
         &mut self,
         heap: Global,

@@ -22,8 +22,8 @@ fn read(terms: Terms, line: &[u8]) -> Result<Terms, Fault>
     terms.with(parse(line)?)
 }
 
-// The terms of the whole file, and a line for each of its lines that is faulty. A faulty line leaves
-// the terms as they were, so that no other line is blamed for it.
+/// The terms of the whole file, and a line for each of its lines that is faulty. A faulty line leaves
+/// the terms as they were, so that no other line is blamed for it.
 pub fn checked(heap: Global, file: &[u8]) -> Result<(Terms, Vec<u8>), AllocError>
     ensures { IfOk result (λ x. (x.0 ≡ terms_of file.now) × (x.1.items ≡ faults_text file.now)) }
 {

@@ -6,7 +6,10 @@ ghost use Rattle.day_file.specs.Lines.{lines_left, numbered, next_line};
 use std::marker::Model;
 use text::line::cut;
 
-// A clause sees how many lines are passed, and those that are still to be read.
+/// The lines of a file that are still to be read, in their order.
+/// A clause sees how many lines are passed, and those that are still to be read.
+// Kept: `day_text` cuts the words of a line alike, at spaces; one type for both would be a library of
+// its own for ten lines of code, and the numbers mean another thing in each.
 #[derive(Drop)]
 pub struct Lines<'a> {
     // What is left of the file: nothing behind its last line.
@@ -25,7 +28,7 @@ impl<'a> Model for Lines<'a> {
 }
 
 impl<'a> Lines<'a> {
-    // The last line may lack its line feed.
+    /// All lines of the file; the last may lack its line feed.
     pub fn of(file: &'a [u8]) -> Lines<'a>
         ensures { result ≡ numbered file.now }
     {
@@ -35,7 +38,7 @@ impl<'a> Lines<'a> {
         }
     }
 
-    // The next line with its number, if there is one.
+    /// The next line with its number, if there is one.
     // Kept: what is left counts as much as the line; `Iterator` would add laws over whole runs that
     // no caller uses.
     pub fn next(&mut self) -> Option<(u64, &'a [u8])>

@@ -10,7 +10,7 @@ use journal::line::Line;
 use ledger::accounts::Accounts;
 use std::alloc::AllocError;
 
-// The balances of all accounts, and their sum, which 64 accounts cannot make too large.
+/// The balances of all accounts, and their sum, which 64 accounts cannot make too large.
 pub fn push_balances<L: Accounts>(out: &mut Vec<u8>, ledger: &L) -> Result<(), AllocError>
     ensures { OnOk result (out.new.items ≡ out.old.items ++ balances_text (L.view ledger.now)) }
 {
@@ -25,7 +25,7 @@ pub fn push_balances<L: Accounts>(out: &mut Vec<u8>, ledger: &L) -> Result<(), A
     Ok(())
 }
 
-// The lines of a journal, numbered from 1.
+/// The lines of a journal, numbered from 1.
 pub fn push_journal(out: &mut Vec<u8>, lines: &[Line]) -> Result<(), AllocError>
     ensures { OnOk result (out.new.items ≡ out.old.items ++ lines_from 1 lines.now) }
 {
@@ -35,7 +35,7 @@ pub fn push_journal(out: &mut Vec<u8>, lines: &[Line]) -> Result<(), AllocError>
     Ok(())
 }
 
-// The last line.
+/// The last line.
 pub fn push_tally(out: &mut Vec<u8>, tally: Tally) -> Result<(), AllocError>
     ensures { OnOk result (out.new.items
         ≡ out.old.items ++ tally_text tally.calls tally.taken tally.refused) }

@@ -16,7 +16,7 @@ use ledgers::table::AccountTable;
 use std::alloc::{AllocError, Global};
 
 /// The text that a day file is answered.
-#[derive(Drop)]
+#[derive(Debug, Drop)]
 pub enum Reply {
     /// The file has no faulty line. Its calls were made: what each was answered, the balances, the
     /// journal's lines where they were asked for, and the tally.

@@ -6,7 +6,7 @@ use day_text::fault::Fault;
 use day_text::line::DayLine;
 use ledger::accounts::MOST;
 
-// How far the file has come.
+/// How far the file has come.
 #[derive(Clone, Copy, PartialEq, Eq, Debug)]
 pub enum Stage {
     // No line but blank ones.
@@ -16,20 +16,23 @@ pub enum Stage {
     Calls,
 }
 
+/// What a file asks for beside its calls.
 #[derive(Clone, Copy)]
 pub struct Terms {
+    /// How far the file has come.
     pub stage: Stage,
+    /// How many sheets the day has, 1 to 48.
     pub sheets: usize,
-    // By account, in cents.
+    /// By account, in cents.
     pub limits: [i64; 64],
-    // How many lines of memory the journal has; the account table where there is none.
+    /// How many lines of memory the journal has; the account table where there is none.
     pub journal: Option<u32>,
-    // Whether the journal's lines are to be printed.
+    /// Whether the journal's lines are to be printed.
     pub print: bool,
 }
 
 impl Terms {
-    // 48 sheets, the account table, and no limit that binds.
+    /// 48 sheets, the account table, and no limit that binds.
     pub fn blank() -> Terms
         ensures { result ≡ terms.blank_terms }
     {
@@ -103,7 +106,7 @@ impl Terms {
         })
     }
 
-    // The terms after a line, or what is wrong with its place.
+    /// The terms after a line, or what is wrong with its place.
     pub fn with(self, line: DayLine) -> Result<Terms, Fault>
         ensures { result ≡ terms.with_line self line }
     {

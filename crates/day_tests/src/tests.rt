@@ -1,5 +1,6 @@
 //! A sheet worked by hand, alone and among others, on ledgers that take its nets and on ledgers
 //! that do not.
+mod caller;
 mod long;
 mod singly;
 mod small;

@@ -9,11 +9,14 @@ use crate::line::DayLine;
 use crate::pairs::only_pairs;
 use crate::words::Words;
 
-// Of whom and when a line speaks, and the figure that it gives.
+/// Of whom and when a line speaks, and the figure that it gives.
 #[derive(Clone, Copy)]
 pub struct Target {
+    /// The number of the facility.
     pub facility: u32,
+    /// The number of the interval.
     pub interval: u32,
+    /// The figure, in the unit of its line.
     pub figure: u32,
 }
 
@@ -124,7 +127,7 @@ fn lodge(mut words: Words) -> Result<DayLine, WordFault>
     Ok(line)
 }
 
-// The line of the keyword with the words after it.
+/// The line of the keyword with the words after it.
 pub fn arguments(keyword: Keyword, words: Words) -> Result<DayLine, WordFault>
     ensures { result ≡ arguments_of keyword words.entry }
 {

@@ -29,7 +29,7 @@ impl FromWord for Pair {
     }
 }
 
-// The first of the words that is no pair is told.
+/// The first of the words that is no pair is told.
 pub fn only_pairs(mut words: Words) -> Result<(), WordFault>
     ensures { result ≡ pairs_from words.entry.passed words.entry.left }
 {

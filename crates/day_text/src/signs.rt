@@ -34,7 +34,7 @@ fn text(line: &[u8]) -> Result<(), Fault>
     Ok(())
 }
 
-// All bytes of the line are text, and no byte order mark stands in front.
+/// All bytes of the line are text, and no byte order mark stands in front.
 pub fn all_text(line: &[u8]) -> Result<(), Fault>
     ensures { result ≡ all_text line.now }
 {
@@ -44,7 +44,7 @@ pub fn all_text(line: &[u8]) -> Result<(), Fault>
     text(line)
 }
 
-// The words of the line stand between single spaces.
+/// The words of the line stand between single spaces.
 pub fn single_spaces(line: &[u8]) -> Result<(), Fault>
     ensures { result ≡ spaced_from 0 (word_list line.now) }
 {

@@ -10,7 +10,7 @@ use std::marker::Model;
 use text::line::cut;
 use text::number::{natural, signed};
 
-// What a single word may say.
+/// What a single word may say.
 pub trait FromWord: Sized {
     ghost use Rattle.std.specs.Prelude.{ℕ, List, Option};
     ghost use Rattle.day_text.specs.declared.fault.WordFault.{WordFault as Wrong};
@@ -105,7 +105,8 @@ fn number_of(word: &[u8], low: u32, high: u32) -> Option<u32>
         .map(|n| n as u32)
 }
 
-// A clause sees how many words are passed, and those that are still to be read.
+/// The words of a line that are still to be read, in their order.
+/// A clause sees how many words are passed, and those that are still to be read.
 #[derive(Drop)]
 pub struct Words<'a> {
     // What is left of the line: nothing behind its last word.
@@ -124,6 +125,7 @@ impl<'a> Model for Words<'a> {
 }
 
 impl<'a> Words<'a> {
+    /// All words of the line.
     pub fn of(line: &'a [u8]) -> Words<'a>
         ensures { result ≡ words line.now }
     {
@@ -133,7 +135,7 @@ impl<'a> Words<'a> {
         }
     }
 
-    // The next word, if there is one.
+    /// The next word, if there is one.
     // Kept: a method of its own, since what is left counts as much as the word; `Iterator` would
     // add laws over whole runs that no caller uses.
     pub fn next(&mut self) -> Option<&'a [u8]>
@@ -146,14 +148,14 @@ impl<'a> Words<'a> {
         Some(word)
     }
 
-    // What the word says that was passed last.
+    /// What the word says that was passed last.
     pub fn says<T: FromWord>(&self, word: &[u8]) -> Result<T, WordFault>
         ensures { result ≡ said T.from_word T.wrong self.now.passed word.now }
     {
         T::from_word(word).ok_or(T::wrong(self.passed))
     }
 
-    // What the next word says.
+    /// What the next word says.
     pub fn read<T: FromWord>(&mut self) -> Result<T, WordFault>
         ensures { mapped_both (λ x. (x, self.new)) (λ e. e) result
             ≡ first T.from_word T.wrong self.old }
@@ -162,7 +164,7 @@ impl<'a> Words<'a> {
         self.says(word)
     }
 
-    // Passes the next word, which must be `journal`.
+    /// Passes the next word, which must be `journal`.
     pub fn past_journal(&mut self) -> Result<(), WordFault>
         ensures { mapped_both (λ x. self.new) (λ e. e) result ≡ past self.old }
     {
@@ -173,7 +175,7 @@ impl<'a> Words<'a> {
         Ok(())
     }
 
-    // What the next word says as a number from low to high.
+    /// What the next word says as a number from low to high.
     // Kept: two ends, as in `natural`; a range would be made at two calls only to be taken apart here.
     pub fn number(&mut self, low: u32, high: u32) -> Result<u32, WordFault>
         ensures { mapped_both (λ n. (n, self.new)) (λ e. e) result
@@ -189,7 +191,7 @@ impl<'a> Words<'a> {
         })
     }
 
-    // The spaces about the word that was passed last, where it is empty.
+    /// The spaces about the word that was passed last, where it is empty.
     pub fn gap(&self) -> Fault
         ensures { result ≡ gap self.now.passed self.now.left }
     {
@@ -200,7 +202,7 @@ impl<'a> Words<'a> {
         }
     }
 
-    // What was read, if no word is left.
+    /// What was read, if no word is left.
     pub fn end<T: Drop>(mut self, read: T) -> Result<T, WordFault>
         ensures { result ≡ ended read self.entry }
     {

@@ -1,5 +1,5 @@
 //! The day: a day file in, what it is answered out.
-ghost use Rattle.std.specs.Prelude.{◌×◌, IfOk, IfErr, IfSome};
+ghost use Rattle.std.specs.Prelude.{IfOk, IfErr, IfSome};
 ghost use Rattle.std.specs.Io.KnownBytes.{Appends, Keeps};
 ghost use Rattle.streams.specs.Outputs.{AppendsFront};
 ghost use Rattle.day_file.specs.Settles.{Replies, text_of};

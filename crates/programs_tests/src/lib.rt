@@ -1,6 +1,9 @@
 //! What the programs write for inputs and command lines at the edges.
 #![tactic(auto)]
 
+#[cfg(test)]
+mod settling;
+
 use programs::command_line::{Asked, Program, asked_by};
 use programs::intake::answer_submission;
 use std::alloc::{AllocError, Global};
