@@ -67,6 +67,8 @@ pub fn answer_day<R: Read, W: Write>(
 {
     let file = read_all(heap, input).map_err(ProgramError::Unread)?;
     let reply = settle(heap, file.as_slice()).map_err(ProgramError::Memory)?;
-    write_all(output, reply.text()).map_err(ProgramError::Unwritten)?;
-    Ok(reply)
+    match write_all(output, reply.text()) {
+        Ok(()) => Ok(reply),
+        Err(error) => Err(ProgramError::Unwritten(error)),
+    }
 }
