@@ -10,7 +10,7 @@ use Rattle.day_text.specs.Keywords.{form_of}
 
 unfoldable pub span_text : Span → List ℕ
 span_text s =
-    codes "from " ++ (signed_decimal s.low ++ (codes " to " ++ (signed_decimal s.high ++ codes " in digits, without commas")))
+    codes "from " ++ (signed_decimal s.low ++ (codes " to " ++ (signed_decimal s.high ++ codes " (digits alone, no comma or point, no 0 in front)")))
 
 abbrev pub word_fault_text : WordFault → List ℕ
 word_fault_text word.Missing = codes "a word is missing"
@@ -20,18 +20,18 @@ word_fault_text (word.NoPair k) = codes "word " ++ (decimal k ++ codes " is no p
 word_fault_text word.NoJournal = codes "word 2 is not journal"
 
 abbrev pub fault_text : Fault → List ℕ
-fault_text fault.ByteOrderMark = codes "a byte order mark stands in front"
+fault_text fault.ByteOrderMark = codes "a byte order mark stands in front: save the file without it"
 fault_text (fault.Tab k) = codes "byte " ++ (decimal k ++ codes " is a tab, not a space")
-fault_text (fault.CarriageReturn k) = codes "byte " ++ (decimal k ++ codes " is a carriage return")
-fault_text (fault.NoText k) = codes "byte " ++ (decimal k ++ codes " is no text (ASCII)")
+fault_text (fault.CarriageReturn k) = codes "byte " ++ (decimal k ++ codes " is a carriage return: save the file with line feeds alone")
+fault_text (fault.NoText k) = codes "byte " ++ (decimal k ++ codes " is no plain character (ASCII): type it anew")
 fault_text fault.SpaceInFront = codes "a space stands in front"
 fault_text (fault.SpacesTogether k) = codes "more than one space after word " ++ decimal k
 fault_text fault.SpaceAtEnd = codes "a space stands at the end"
-fault_text fault.UnknownWord = codes "unknown word in front"
+fault_text fault.UnknownWord = codes "unknown word in front: --help shows all, in small letters"
 fault_text (fault.Words keyword f) = word_fault_text f ++ (codes ": " ++ form_of keyword)
-fault_text fault.SheetsTooLate = codes "sheets comes too late: it is the first line"
+fault_text fault.SheetsTooLate = codes "sheets comes too late: it must be the first line"
 fault_text fault.LedgerTooLate = codes "ledger comes too late: a call stands before it"
 fault_text fault.LimitTooLate = codes "limit comes too late: a call stands before it"
 fault_text (fault.NoAccount a) =
     codes "no ledger here has account " ++ (decimal a ++ codes ": they have 0 to 11")
-fault_text fault.NoJournalLedger = codes "no ledger journal stands before it"
+fault_text fault.NoJournalLedger = codes "print journal needs ledger journal before it"

@@ -102,7 +102,7 @@ impl fmt::Display for Span {
     fn fmt<W: fmt::Write>(&self, f: &mut fmt::Formatter<W>) -> fmt::Result {
         write!(
             f,
-            "from {} to {} in digits, without commas",
+            "from {} to {} (digits alone, no comma or point, no 0 in front)",
             self.low, self.high
         )
     }
@@ -129,22 +129,34 @@ impl fmt::Display for Fault {
 
     fn fmt<W: fmt::Write>(&self, f: &mut fmt::Formatter<W>) -> fmt::Result {
         match *self {
-            Fault::ByteOrderMark => write!(f, "a byte order mark stands in front"),
+            Fault::ByteOrderMark => write!(
+                f,
+                "a byte order mark stands in front: save the file without it"
+            ),
             Fault::Tab { byte } => write!(f, "byte {byte} is a tab, not a space"),
-            Fault::CarriageReturn { byte } => write!(f, "byte {byte} is a carriage return"),
-            Fault::NoText { byte } => write!(f, "byte {byte} is no text (ASCII)"),
+            Fault::CarriageReturn { byte } => write!(
+                f,
+                "byte {byte} is a carriage return: save the file with line feeds alone"
+            ),
+            Fault::NoText { byte } => write!(
+                f,
+                "byte {byte} is no plain character (ASCII): type it anew"
+            ),
             Fault::SpaceInFront => write!(f, "a space stands in front"),
             Fault::SpacesTogether { word } => write!(f, "more than one space after word {word}"),
             Fault::SpaceAtEnd => write!(f, "a space stands at the end"),
-            Fault::UnknownWord => write!(f, "unknown word in front"),
+            Fault::UnknownWord => write!(
+                f,
+                "unknown word in front: --help shows all, in small letters"
+            ),
             Fault::Words { keyword, fault } => write!(f, "{fault}: {keyword}"),
-            Fault::SheetsTooLate => write!(f, "sheets comes too late: it is the first line"),
+            Fault::SheetsTooLate => write!(f, "sheets comes too late: it must be the first line"),
             Fault::LedgerTooLate => write!(f, "ledger comes too late: a call stands before it"),
             Fault::LimitTooLate => write!(f, "limit comes too late: a call stands before it"),
             Fault::NoAccount { account } => {
                 write!(f, "no ledger here has account {account}: they have 0 to 11")
             }
-            Fault::NoJournalLedger => write!(f, "no ledger journal stands before it"),
+            Fault::NoJournalLedger => write!(f, "print journal needs ledger journal before it"),
         }
     }
 }

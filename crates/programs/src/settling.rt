@@ -6,11 +6,15 @@ ghost use Rattle.day_file.specs.Settles.{Replies, text_of};
 ghost use Rattle.programs.specs.Failures.{ByFailure};
 ghost use Rattle.programs.specs.Days.{WritesFront};
 
-use crate::command_line::Program;
+use crate::command_line::{Program, source_asked, unanswered, words_given};
 use crate::failure::ProgramError;
+use crate::input::{Source, open};
 use day_file::settled::{Reply, settle};
 use std::alloc::Global;
+use std::io;
 use std::io::{Read, Write};
+use std::process::ExitCode;
+use std::rt::{Env, Files};
 use streams::input::read_all;
 use streams::output::write_all;
 
@@ -70,5 +74,31 @@ pub fn answer_day<R: Read, W: Write>(
     match write_all(output, reply.text()) {
         Ok(()) => Ok(reply),
         Err(error) => Err(ProgramError::Unwritten(error)),
+    }
+}
+
+fn answer<R: AllocGlobal + io::Input + Files + Print>(
+    rt: &R,
+    source: Source<'_>,
+) -> Result<Reply, ProgramError> {
+    let mut input = open(rt, source)?;
+    answer_day(rt.alloc(), &mut input, &mut io::writer(rt))
+}
+
+fn run<R: AllocGlobal + Env + io::Input + Files + Print + Eprint>(
+    rt: &R,
+) -> Result<Reply, ExitCode> {
+    let words = words_given(rt)?;
+    let source = source_asked(rt, PROGRAM, words.as_slice())?;
+    answer(rt, source).map_err(|error| unanswered(rt, source, &error))
+}
+
+/// The whole program. Its status is 0 where the day was settled, and for the help and the version; 1
+/// where a line of the file is faulty, or there is no answer.
+pub fn settle_day<R: AllocGlobal + Env + io::Input + Files + Print + Eprint>(rt: &R) -> ExitCode {
+    match run(rt) {
+        Ok(Reply::Settled(_)) => ExitCode::SUCCESS,
+        Ok(Reply::Faulty(_)) => ExitCode::FAILURE,
+        Err(status) => status,
     }
 }

@@ -22,7 +22,7 @@ fn bytes(rt: HostRuntime) -> Result<(), Fail> {
         is_told(
             heap,
             b"\xef\xbb\xbfsheets 2\n",
-            b"1: a byte order mark stands in front\n"
+            b"1: a byte order mark stands in front: save the file without it\n"
         )?
     );
     assert!(rt;
@@ -36,10 +36,16 @@ fn bytes(rt: HostRuntime) -> Result<(), Fail> {
         is_told(
             heap,
             b"open 0 1\r\nclose 1\r\n",
-            b"1: byte 9 is a carriage return\n2: byte 8 is a carriage return\n",
+            b"1: byte 9 is a carriage return: save the file with line feeds alone\n2: byte 8 is a carriage return: save the file with line feeds alone\n",
         )?
     );
-    assert!(rt; is_told(heap, b"close \xc2\xb9", b"1: byte 7 is no text (ASCII)\n")?);
+    assert!(rt;
+        is_told(
+            heap,
+            b"close \xc2\xb9",
+            b"1: byte 7 is no plain character (ASCII): type it anew\n"
+        )?
+    );
     Ok(())
 }
 
@@ -61,7 +67,13 @@ fn spaces(rt: HostRuntime) -> Result<(), Fail> {
 #[test]
 fn words(rt: HostRuntime) -> Result<(), Fail> {
     let heap = rt.alloc();
-    assert!(rt; is_told(heap, b"\n\nclosed 1\n", b"3: unknown word in front\n")?);
+    assert!(rt;
+        is_told(
+            heap,
+            b"\n\nclosed 1\n",
+            b"3: unknown word in front: --help shows all, in small letters\n"
+        )?
+    );
     assert!(rt; is_told(heap, b"close\n", b"1: a word is missing: close INTERVAL\n")?);
     assert!(rt;
         is_told(
@@ -74,7 +86,7 @@ fn words(rt: HostRuntime) -> Result<(), Fail> {
         is_told(
             heap,
             b"limit 3 83,692\n",
-            b"1: word 3 is no number from -9223372036854775808 to 9223372036854775807 in digits, without commas: limit ACCOUNT CENTS\n",
+            b"1: word 3 is no number from -9223372036854775808 to 9223372036854775807 (digits alone, no comma or point, no 0 in front): limit ACCOUNT CENTS\n",
         )?
     );
     assert!(rt;
@@ -101,7 +113,7 @@ fn places(rt: HostRuntime) -> Result<(), Fail> {
         is_told(
             heap,
             b"\n# nothing yet\nlimit 1 5\nsheets 2\nprint journal\nregister 1 10000 1 0\nlimit 1 5\nledger journal 4\nx",
-            b"4: sheets comes too late: it is the first line\n5: no ledger journal stands before it\n7: limit comes too late: a call stands before it\n8: ledger comes too late: a call stands before it\n9: unknown word in front\n",
+            b"4: sheets comes too late: it must be the first line\n5: print journal needs ledger journal before it\n7: limit comes too late: a call stands before it\n8: ledger comes too late: a call stands before it\n9: unknown word in front: --help shows all, in small letters\n",
         )?
     );
     assert!(rt;
@@ -123,7 +135,7 @@ fn lines_after_a_faulty_one(rt: HostRuntime) -> Result<(), Fail> {
         is_told(
             heap,
             b"\xef\xbb\xbf# a day\nsheets 2\nclose one\nlimit 1 5\n",
-            b"1: a byte order mark stands in front\n3: word 2 is no number from 0 to 4294967295 in digits, without commas: close INTERVAL\n",
+            b"1: a byte order mark stands in front: save the file without it\n3: word 2 is no number from 0 to 4294967295 (digits alone, no comma or point, no 0 in front): close INTERVAL\n",
         )?
     );
     Ok(())
