@@ -1,6 +1,6 @@
 //! What a program reads: standard input, or a file.
-ghost use Rattle.std.specs.Prelude.{◌≡◌, ◌≢◌, IsNone, IfSome, codes};
-ghost use Rattle.programs.specs.Sources.{input_remaining};
+ghost use Rattle.std.specs.Prelude.{◌≡◌, ◌≢◌, IsNone, IfOk, IfErr, IfSome, codes};
+ghost use Rattle.programs.specs.Sources.{input_remaining, IsInputOf, IsUnopenedOf};
 
 use crate::failure::ProgramError;
 use std::fs::File;
@@ -65,11 +65,14 @@ impl<S: Read, F: Read> Read for Input<S, F> {
     }
 }
 
-/// Opens the source. An `Err` is one of a file.
+/// Opens the source. An `Err` is one of a file that cannot be opened.
 pub fn open<R: io::Input + Files>(
     rt: &R,
     source: Source<'_>,
-) -> Result<Input<R::Reader, R::File>, ProgramError> {
+) -> Result<Input<R::Reader, R::File>, ProgramError>
+    ensures opened { IfOk result (IsInputOf source.entry) }
+    ensures refused { IfErr result (IsUnopenedOf source.entry) }
+{
     match source {
         Source::Standard => Ok(Input::Standard(rt.reader())),
         Source::File(name) => match File::open(rt, name) {

@@ -1,9 +1,10 @@
 //! The intake: a submission file in, its written form or the refusal out.
 ghost use Rattle.std.specs.Prelude.{take, IfSome, IfErr, OnOk, OnErr};
-ghost use Rattle.std.specs.Io.KnownBytes.{Appends, Keeps};
+ghost use Rattle.std.specs.Io.KnownBytes.{Appends, Consumes, Keeps};
+ghost use Rattle.streams.specs.Inputs.{StopsOnLine};
 ghost use Rattle.streams.specs.Outputs.{AppendsFront};
 ghost use Rattle.submission_text.specs.Write.{answer_text};
-ghost use Rattle.programs.specs.Failures.{OnUnread};
+ghost use Rattle.programs.specs.Failures.{OnUnread, ForLine};
 
 use crate::command_line::Program;
 use crate::failure::ProgramError;
@@ -34,11 +35,15 @@ pub fn answer_submission<R: Read, W: Write>(
     ensures answered { OnOk result (IfSome (R.remaining input.old) (λ bytes.
         Appends (W.contents output.old) (W.contents output.new)
         (answer_text (take 4096 bytes)))) }
+    ensures consumed { OnOk result (IfSome (R.remaining input.old) (λ bytes.
+        Consumes (R.remaining input.old) (R.remaining input.new) (take 4096 bytes))) }
     ensures front { OnErr result (IfSome (R.remaining input.old) (λ bytes.
         AppendsFront (W.contents output.old) (W.contents output.new)
         (answer_text (take 4096 bytes)))) }
     ensures unread { IfErr result (λ error.
         OnUnread error (Keeps (W.contents output.old) (W.contents output.new))) }
+    ensures line { IfErr result (λ error. ForLine error
+        (StopsOnLine (R.remaining input.old) (R.remaining input.new))) }
 {
     let text = read_front(heap, input, MOST).map_err(ProgramError::Unread)?;
     let answer = answer_to(text.as_slice());

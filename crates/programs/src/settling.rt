@@ -1,9 +1,10 @@
 //! The day: a day file in, what it is answered out.
 ghost use Rattle.std.specs.Prelude.{IfOk, IfErr, IfSome};
 ghost use Rattle.std.specs.Io.KnownBytes.{Appends, Keeps};
+ghost use Rattle.streams.specs.Inputs.{StopsOnLine};
 ghost use Rattle.streams.specs.Outputs.{AppendsFront};
 ghost use Rattle.day_file.specs.Settles.{Replies, text_of};
-ghost use Rattle.programs.specs.Failures.{ByFailure};
+ghost use Rattle.programs.specs.Failures.{ByFailure, ForLine};
 ghost use Rattle.programs.specs.Days.{WritesFront};
 
 use crate::command_line::{Program, source_asked, unanswered, words_given};
@@ -68,6 +69,8 @@ pub fn answer_day<R: Read, W: Write>(
         (IfSome (R.remaining input.old)
         (WritesFront (W.contents output.old) (W.contents output.new)))
         (Keeps (W.contents output.old) (W.contents output.new))) }
+    ensures line { IfErr result (λ error. ForLine error
+        (StopsOnLine (R.remaining input.old) (R.remaining input.new))) }
 {
     let file = read_all(heap, input).map_err(ProgramError::Unread)?;
     let reply = settle(heap, file.as_slice()).map_err(ProgramError::Memory)?;

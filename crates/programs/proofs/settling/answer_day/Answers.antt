@@ -20,6 +20,7 @@ returns-in-Ok g c =
     record {
       answered = read_as _ file (λ (f : List ℕ). Replies f reply × grows (text_of reply)) whole (replies, subst grows c.text.ensures c.in-Ok.ensures.whole);
       failed = tt;
+      line = tt;
     }
 
 pub returns : goal.returns
@@ -34,4 +35,5 @@ returns g c =
       answered = tt;
       failed = read_as _ file (WritesFront old new) whole
           (record { reply = reply; replies = replies; front = subst (λ (text : List ℕ). AppendsFront old new text) c.text.ensures c.in-Err.ensures.front });
+      line = tt;
     }
