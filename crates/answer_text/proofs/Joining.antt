@@ -7,7 +7,7 @@ use Rattle.text.specs.Drafts.{kept}
 use Rattle.text.proofs.Drafting.{kept_more, kept_all}
 
 -- pieces from an empty draft on
-pub from_none : (new last text : List ℕ) → new ≡ [] → length text ≤ 512 → last ≡ kept (new ++ text) → last ≡ text
+pub from_none : (new last text : List ℕ) → new ≡ [] → length text ≤ 4096 → last ≡ kept (new ++ text) → last ≡ text
 from_none new last text e s p = p ∙ ap (λ x. kept (x ++ text)) e ∙ kept_all text s
 
 -- how long numbers are

@@ -40,6 +40,10 @@ result_words (Err f) = refusal_words f
 abbrev pub answered : ℕ → Result Answer Refusal → List ℕ
 answered n r = decimal n ++ (codes ": " ++ (result_words r ++ codes "\n"))
 
+-- why a page of a statement that line n asks for is not printed
+abbrev pub refused_text : ℕ → ℕ → ℕ → List ℕ
+refused_text n k p = decimal n ++ (codes ": " ++ ((codes "refused=" ++ decimal k) ++ ((codes " place=" ++ decimal p) ++ codes "\n")))
+
 -- a line of the journal
 abbrev pub journal_text : ℕ → ℕ → ℤ → List ℕ
 journal_text k a z = (codes "line=" ++ decimal k) ++ ((codes " account=" ++ decimal a) ++ (codes " cents=" ++ (signed_decimal z ++ codes "\n")))

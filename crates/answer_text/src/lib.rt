@@ -5,7 +5,7 @@
 
 ghost use Rattle.std.specs.Prelude.{◌≡◌, ◌+◌, ◌≤◌, ◌++◌, length, decimal};
 ghost use Rattle.text.specs.Drafts.{kept};
-ghost use Rattle.answer_text.specs.Answers.{price_words, answer_words, refusal_words, reason_words, result_words, answered, tally_text, journal_text, balance_text, sum_text};
+ghost use Rattle.answer_text.specs.Answers.{price_words, answer_words, refusal_words, reason_words, result_words, answered, refused_text, tally_text, journal_text, balance_text, sum_text};
 
 use ledger::reason::Reason;
 use pool::call::{Answer, Lodged};
@@ -84,6 +84,20 @@ pub fn answer_line(line: u64, res: Result<Answer, Refusal>) -> Draft
     draft.push_natural(line);
     draft.push(b": ");
     push_result(&mut draft, res);
+    draft.push(b"\n");
+    draft
+}
+
+/// The line that tells why a page of a statement, asked for on a line of the day file, is not
+/// printed: by the number of the refusal and its place. `line` is the number of that line, from 1.
+pub fn refused_line(line: u64, number: u32, place: usize) -> Draft
+    ensures { result ≡ refused_text line number place }
+{
+    let mut draft = Draft::new();
+    draft.push_natural(line);
+    draft.push(b": ");
+    push_figure(&mut draft, b"refused=", number as u64);
+    push_figure(&mut draft, b" place=", place as u64);
     draft.push(b"\n");
     draft
 }

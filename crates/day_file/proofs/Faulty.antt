@@ -1,5 +1,5 @@
 -- A line read, and what is told of it.
-use Rattle.std.proofs.Common.{◌≡◌, ℕ, ◌+◌, List, [], ◌∷◌, ◌++◌, unwrap_or, Some, Option, sym, ap, ◌∙◌, subst, append_assoc, arith}
+use Rattle.std.proofs.Common.{◌≡◌, ℕ, ◌+◌, List, [], ◌∷◌, ◌++◌, unwrap_or, Some, sym, ap, ◌∙◌, subst, append_assoc, arith}
 use Rattle.day_file.specs.declared.terms.Terms.{Terms}
 use Rattle.day_file.specs.Lines.{Numbered, next_of, next_line}
 use Rattle.day_file.specs.Faults.{read, or_before, told_of, terms_after, faults_from}

@@ -3,3 +3,4 @@ pub mod Lined
 pub mod Faulty
 pub mod Courses
 pub mod Settles
+pub mod Stating

@@ -1,5 +1,5 @@
 -- What is told over a ledger is told over its balances, or over its lines.
-use Rattle.std.proofs.Common.{◌≡◌, ℕ, ◌+◌, min, if◌then◌else◌, List, [], ◌∷◌, ◌++◌, length, take, Some, None, Ok, Err, IfOk, Result, ℤ, pos, replicate, append-nil, append_assoc, refl, sym, ap, ◌∙◌, subst, arith}
+use Rattle.std.proofs.Common.{◌≡◌, ℕ, min, List, [], ◌∷◌, ◌++◌, length, take, Some, None, Ok, Err, IfOk, OnOk, Result, ℤ, pos, replicate, append-nil, append_assoc, sym, ap, ◌∙◌, subst, arith}
 use Rattle.ledger.specs.View.{View, Sound}
 use Rattle.ledger.specs.Posting.{Post}
 use Rattle.ledger.specs.Rows.{Gained}
@@ -10,25 +10,28 @@ use Rattle.ledgers.specs.Limits.{limited}
 use Rattle.ledgers.specs.Tables.{table_view, with_posts}
 use Rattle.journal.specs.declared.journal.Journal.{Journal}
 use Rattle.journal.specs.declared.line.Line.{Line}
-use Rattle.journal.specs.Extending.{lines_of, Extended, front_stands}
+use Rattle.journal.specs.Extending.{Extended, front_stands}
 use Rattle.journal.specs.Lines.{room, journal_view, lines_view}
 use Rattle.pool.specs.declared.call.Call.{Call}
-use Rattle.pool.specs.Day.{Day}
 use Rattle.day.specs.Book.{Book, Answered, fed}
-use Rattle.day.specs.Law.{Heeds, Follows, Law}
+use Rattle.day.specs.Law.{Heeds, Follows}
 use Rattle.day.specs.Claims.{LawStands}
 use Rattle.answer_text.specs.Answers.{tally_text}
 use Rattle.day_file.specs.declared.course.Course.{Course}
 use Rattle.day_file.specs.declared.tally.Tally.{Tally}
 use Rattle.day_file.specs.declared.terms.Terms.{Terms}
 use Rattle.day_file.specs.Calls.{numbers_on}
-use Rattle.day_file.specs.Reports.{balances_text, answers_text, lines_from, taken_in, refused_in, tally_of}
+use Rattle.day_file.specs.Reports.{balances_text, answers_text, taken_in, tally_of}
 use Rattle.day_file.specs.Courses.{IsBlank, Makes, day_of}
-use Rattle.day_file.specs.Settles.{Tells, Prints, PrintsOver, table_seen, balance_by_balance, journal_seen, line_by_line}
+use Rattle.day_file.specs.Settles.{Tells, Prints, text_behind, PrintsOver, table_seen, balance_by_balance, journal_seen, line_by_line}
 
 pub if_ok : {X E : Type 0} {P Q : X → Type 0} (r : Result X E) → IfOk r P → ((x : X) → P x → Q x) → IfOk r Q
 if_ok (Ok x) p f = f x p
 if_ok (Err e) p f = tt
+
+pub on_ok : {X E P Q : Type 0} (r : Result X E) → (P → Q) → OnOk r P → OnOk r Q
+on_ok (Ok x) f p = f p
+on_ok (Err e) f p = tt
 
 gained_seen : (v v' w w' : View) (f : ℕ → ℤ) → v ≡ v' → w ≡ w' → Gained v f w → Gained v' f w'
 gained_seen v v' w w' f p q g = subst (λ (u : View). Gained u f w') p (subst (λ (u : View). Gained v f u) q g)
@@ -81,11 +84,6 @@ module _ {L M : Type 0} (view : L → View) (took : L → List Post → L → Ty
             ∙ ap (λ l. answers ++ l) (append_assoc balances told (tally_of t.answers));
       }
 
--- the tally behind a text
-pub closed : (first last : Course) (text out : List ℕ) → out ≡ last.text.items ++ tally_text last.tally.calls last.tally.taken last.tally.refused → last.text.items ≡ text → last.tally ≡ first.tally
-    → out ≡ text ++ tally_text first.tally.calls first.tally.taken first.tally.refused
-closed first last text out e t k = e ∙ ap (λ l. l ++ tally_text last.tally.calls last.tally.taken last.tally.refused) t ∙ ap (λ (a : Tally). text ++ tally_text a.calls a.taken a.refused) k
-
 -- ---- the account table, by its balances
 abbrev Table : Type 0
 Table = CreditLimit AccountTable
@@ -121,12 +119,8 @@ lines_take x ps y =
 abbrev pub written : Journal → List Line
 written j = take j.used j.lines.now
 
--- what is told of the lines
-abbrev pub behind : Terms → List Line → List ℕ
-behind t ls = if t.print then lines_from 1 ls else []
-
 pub prints_journal : (t : Terms) (n : ℕ) (ss : List (List ℕ)) (x z : Lines) (c : Course) (text : List ℕ) → t.journal ≡ Some n → x.limits ≡ t.limits → x.below.used ≡ 0 → length x.below.lines.now ≡ n
-    → Tells lines_see lines_take t.sheets ss x z c → text ≡ (c.text.items ++ behind t (written z.below)) ++ tally_text c.tally.calls c.tally.taken c.tally.refused
+    → Tells lines_see lines_take t.sheets ss x z c → text ≡ (c.text.items ++ text_behind t.print ss (written z.below)) ++ tally_text c.tally.calls c.tally.taken c.tally.refused
     → PrintsOver t.journal t ss text
 prints_journal t n ss x z c text some limits none long tells e =
     let all = t.limits in
@@ -134,11 +128,11 @@ prints_journal t n ss x z c text some limits none long tells e =
     let prints = prints_read lines_see lines_take (journal_seen all n) line_by_line lines (λ s. (s.limits ≡ all) × (room s.below.lines.now ≡ min n 4096))
     (λ s k. ap (λ ls. limited ls (journal_view s.below.lines.now s.below.used)) k.0 ∙ ap (λ m. limited all (lines_view m (lines s))) k.1)
     (λ s ps y k h. ((h.1 ∙ k.0, ap (λ m. min m 4096) h.0.0.size ∙ k.1), front_stands s.below.lines.now s.below.used ps y.below.lines.now y.below.used s.below.within h.0.0))
-    t.sheets ss x z c (behind t) text (limits, ap (λ m. min m 4096) long) tells e
+    t.sheets ss x z c (text_behind t.print ss) text (limits, ap (λ m. min m 4096) long) tells e
     in
     let begun : lines x ≡ [] = ap (λ k. take k x.below.lines.now) none in
     subst (λ j. PrintsOver j t ss text) (sym some)
-    (subst (λ (ls : List Line). Prints (journal_seen all n) line_by_line t.sheets ss ls (behind t) text) begun prints)
+    (subst (λ (ls : List Line). Prints (journal_seen all n) line_by_line t.sheets ss ls (text_behind t.print ss) text) begun prints)
 
 -- ---- blank register and sheets, and lines that make their calls
 module _ {L : Type 0} (view : L → View) (took : L → List Post → L → Type 0) where

@@ -3,7 +3,7 @@ use Rattle.std.specs.Prelude.{ℕ, ◌+◌, List, [], ◌∷◌, ◌++◌, map, 
 use Rattle.offers.specs.declared.pair.Pair.{Pair}
 use Rattle.day_text.specs.declared.fault.Fault.{Fault}
 use Rattle.day_text.specs.declared.line.DayLine.{DayLine}
-use Rattle.day_text.specs.declared.line.DayLine.TheVariants.{Blank, Sheets, Limit, Journal, Register, Open, Lodge, Start, Reading, Position, Demand, Close, Settle, Adjust, PrintJournal}
+use Rattle.day_text.specs.declared.line.DayLine.TheVariants.{Blank, Sheets, Limit, Journal, Register, Open, Lodge, Start, Reading, Position, Demand, Close, Settle, Adjust, PrintJournal, Statement}
 use Rattle.day_text.specs.Lines.{line_of, pairs_of}
 use Rattle.pool.specs.declared.call.Call.{Call}
 use Rattle.pool.specs.declared.call.Call.TheVariants as calls
@@ -38,6 +38,7 @@ calling (Close i) ps = Some (Close i, [])
 calling (Settle i) ps = Some (Settle i, [])
 calling (Adjust f i k) ps = Some (Adjust f i k, [])
 calling PrintJournal ps = None
+calling (Statement a n) ps = None
 
 abbrev pub listed : {X : Type 0} → Option X → List X
 listed None = []

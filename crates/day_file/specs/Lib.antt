@@ -3,5 +3,6 @@ pub mod Terms
 pub mod Faults
 pub mod Calls
 pub mod Reports
+pub mod Statements
 pub mod Courses
 pub mod Settles

@@ -17,6 +17,7 @@ use Rattle.day_file.specs.Lines.{lines}
 use Rattle.day_file.specs.Calls.{said, calls_on, numbers_on}
 use Rattle.day_file.specs.Faults.{terms_of, faults_text}
 use Rattle.day_file.specs.Reports.{answers_text, balances_text, lines_from, taken_in, refused_in, tally_of}
+use Rattle.day_file.specs.Statements.{statements_from}
 
 -- the calls of lines on blank sheets and the ledger x, which is z after them, by the law of the day;
 -- and the text of their answers and of the balances after them
@@ -63,14 +64,19 @@ journal_seen limits n ls = limited limits (lines_view (min n 4096) ls)
 abbrev pub line_by_line : Took (List Line)
 line_by_line ls ps ms = ms ≡ ls ++ lines_of ps
 
--- over the account table from zero, or over a journal without a line, whose lines are printed behind
--- the balances where they are asked for
+-- what is told of a journal's lines: these where they are asked for, and then the pages that lines
+-- of the file ask for
+abbrev pub text_behind : Bool → List (List ℕ) → List Line → List ℕ
+text_behind print ss ls = (if print then lines_from 1 ls else []) ++ statements_from 1 ss ls
+
+-- over the account table from zero, or over a journal without a line, of which is told behind the
+-- balances what the file asks for
 abbrev pub PrintsOver : Option ℕ → Terms → List (List ℕ) → List ℕ → Type 0
 PrintsOver None t ss text =
     Prints (table_seen t.limits) balance_by_balance t.sheets ss (replicate 12 (pos 0)) (λ zs. []) text
 PrintsOver (Some n) t ss text =
     Prints (journal_seen t.limits n) line_by_line t.sheets ss []
-    (λ ls. if t.print then lines_from 1 ls else []) text
+    (text_behind t.print ss) text
 
 -- what is printed of the text of a day file without faults
 abbrev pub Settles : List ℕ → List ℕ → Type 0

@@ -3,8 +3,11 @@ use Rattle.std.specs.Prelude.{ℕ, Bool, true, false, if◌then◌else◌, repli
 use Rattle.ledger.specs.View.{most}
 use Rattle.day_text.specs.declared.fault.Fault.{Fault}
 use Rattle.day_text.specs.declared.fault.Fault.TheVariants.{SheetsTooLate, LedgerTooLate, LimitTooLate, NoAccount, NoJournalLedger}
+use Rattle.text.specs.Lines.{and_then}
+use Rattle.day_text.specs.declared.keyword.Keyword.{Keyword}
+use Rattle.day_text.specs.declared.keyword.Keyword.TheVariants as keyword
 use Rattle.day_text.specs.declared.line.DayLine.{DayLine}
-use Rattle.day_text.specs.declared.line.DayLine.TheVariants.{Blank, Sheets, Limit, Journal, Register, Open, Lodge, Start, Reading, Position, Demand, Close, Settle, Adjust, PrintJournal}
+use Rattle.day_text.specs.declared.line.DayLine.TheVariants.{Blank, Sheets, Limit, Journal, Register, Open, Lodge, Start, Reading, Position, Demand, Close, Settle, Adjust, PrintJournal, Statement}
 use Rattle.day_file.specs.declared.terms.Stage.{Stage}
 use Rattle.day_file.specs.declared.terms.Stage.TheVariants as stage
 use Rattle.day_file.specs.declared.terms.Terms.{Terms}
@@ -45,11 +48,15 @@ with_journal t n =
     if has_calls t.stage then Err LedgerTooLate
     else Ok (record { stage = stage.NoCall; sheets = t.sheets; limits = t.limits; journal = Some n; print = t.print })
 
--- without a journal there is nothing to print
+-- without a journal there is nothing to print, nor a page of a statement
+abbrev pub behind_journal : Terms → Keyword → Result Terms Fault
+behind_journal t k = if is_some t.journal then Ok t else Err (NoJournalLedger k)
+
+abbrev pub with_print : Terms → Terms
+with_print t = record { stage = t.stage; sheets = t.sheets; limits = t.limits; journal = t.journal; print = true }
+
 abbrev pub printing : Terms → Result Terms Fault
-printing t =
-    if is_some t.journal then Ok (record { stage = t.stage; sheets = t.sheets; limits = t.limits; journal = t.journal; print = true })
-    else Err NoJournalLedger
+printing t = and_then (behind_journal t keyword.Print) (λ u. Ok (with_print u))
 
 -- the terms after a line, or what is wrong with its place
 abbrev pub with_line : Terms → DayLine → Result Terms Fault
@@ -58,6 +65,7 @@ with_line t (Sheets n) = with_sheets t n
 with_line t (Limit a c) = with_limit t a c
 with_line t (Journal n) = with_journal t n
 with_line t PrintJournal = printing t
+with_line t (Statement a n) = behind_journal t keyword.Statement
 with_line t (Register a x c k) = Ok (at_stage t stage.Calls)
 with_line t (Open l h) = Ok (at_stage t stage.Calls)
 with_line t (Lodge f i u w) = Ok (at_stage t stage.Calls)

@@ -7,6 +7,7 @@ mod faults;
 mod lines;
 mod report;
 pub mod settled;
+mod statements;
 mod tally;
 mod terms;
 #[cfg(test)]

@@ -1,11 +1,13 @@
 //! A day file settled: its text in, the text that it is answered out.
-ghost use Rattle.std.specs.Prelude.{◌≡◌, IfOk, Some, None};
+ghost use Rattle.std.specs.Prelude.{◌≡◌, ◌++◌, IfOk, OnOk, Some, None};
+ghost use Rattle.journal.specs.Shown.{posted_of};
 ghost use Rattle.day_file.specs.Lines.{lines as lines_of};
-ghost use Rattle.day_file.specs.Settles.{Tells, PrintsOver, Replies, text_of};
+ghost use Rattle.day_file.specs.Settles.{Tells, text_behind, PrintsOver, Replies, text_of};
 
 use crate::course::Course;
 use crate::faults::checked;
 use crate::report::{push_balances, push_journal, push_tally};
+use crate::statements::push_statements;
 use crate::terms::Terms;
 use day::claims::law_stands;
 use journal::journal::Journal;
@@ -19,7 +21,7 @@ use std::alloc::{AllocError, Global};
 #[derive(Debug, Drop)]
 pub enum Reply {
     /// The file has no faulty line. Its calls were made: what each was answered, the balances, the
-    /// journal's lines where they were asked for, and the tally.
+    /// journal's lines where they were asked for, the pages of statements that were, and the tally.
     Settled(Vec<u8>),
     /// The file has faulty lines, and no call was made: what is wrong with each of them.
     Faulty(Vec<u8>),
@@ -64,7 +66,22 @@ fn over_table(heap: Global, file: &[u8], terms: &Terms) -> Result<Vec<u8>, Alloc
     Ok(course.text)
 }
 
-// The journal's lines are told behind the balances where they are asked for.
+// What the file asks to be told of its journal: the lines, and pages of statements.
+fn push_behind(
+    out: &mut Vec<u8>,
+    journal: &Journal,
+    print: bool,
+    file: &[u8],
+) -> Result<(), AllocError>
+    ensures { OnOk result (out.new.items
+        ≡ out.old.items ++ text_behind print (lines_of file.now) (posted_of journal.now)) }
+{
+    if print {
+        push_journal(out, journal.posted())?;
+    }
+    push_statements(out, journal, file)
+}
+
 fn over_journal(heap: Global, file: &[u8], terms: &Terms, lines: u32) -> Result<Vec<u8>, AllocError>
     requires { terms.now.journal ≡ Some lines }
     ensures { IfOk result (λ text.
@@ -79,9 +96,7 @@ fn over_journal(heap: Global, file: &[u8], terms: &Terms, lines: u32) -> Result<
     let mut ledger = CreditLimit::new(journal, terms.limits);
     let mut course = settle_over(heap, file, terms.sheets, &mut ledger)?;
     let journal = ledger.into_below();
-    if terms.print {
-        push_journal(&mut course.text, journal.posted())?;
-    }
+    push_behind(&mut course.text, &journal, terms.print, file)?;
     push_tally(&mut course.text, course.tally)?;
     Ok(course.text)
 }

@@ -3,6 +3,7 @@ ghost use Rattle.std.specs.Prelude.{◌≡◌};
 ghost use Rattle.day_file.specs.Terms as terms;
 
 use day_text::fault::Fault;
+use day_text::keyword::Keyword;
 use day_text::line::DayLine;
 use ledger::accounts::MOST;
 
@@ -94,15 +95,23 @@ impl Terms {
         })
     }
 
+    // These terms, if the ledger is a journal, which a line of that keyword needs.
+    fn behind_journal(self, keyword: Keyword) -> Result<Terms, Fault>
+        ensures { result ≡ terms.behind_journal self keyword }
+    {
+        if self.journal.is_none() {
+            return Err(Fault::NoJournalLedger { keyword });
+        }
+        Ok(self)
+    }
+
     fn printing(self) -> Result<Terms, Fault>
         ensures { result ≡ terms.printing self }
     {
-        if self.journal.is_none() {
-            return Err(Fault::NoJournalLedger);
-        }
+        let terms = self.behind_journal(Keyword::Print)?;
         Ok(Terms {
             print: true,
-            ..self
+            ..terms
         })
     }
 
@@ -116,6 +125,7 @@ impl Terms {
             DayLine::Limit { account, cents } => self.with_limit(account, cents),
             DayLine::Journal { lines } => self.with_journal(lines),
             DayLine::PrintJournal => self.printing(),
+            DayLine::Statement { .. } => self.behind_journal(Keyword::Statement),
             _ => Ok(self.at(Stage::Calls)),
         }
     }

@@ -1,6 +1,7 @@
 //! Small day files and a long one, faulty ones among them, and what they are answered.
 mod faulty;
 mod long;
+mod statements;
 
 use crate::settled::{Reply, settle};
 use std::alloc::{AllocError, Global};

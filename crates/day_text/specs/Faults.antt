@@ -34,4 +34,4 @@ fault_text fault.LedgerTooLate = codes "ledger comes too late: a call stands bef
 fault_text fault.LimitTooLate = codes "limit comes too late: a call stands before it"
 fault_text (fault.NoAccount a) =
     codes "no ledger here has account " ++ (decimal a ++ codes ": they have 0 to 11")
-fault_text fault.NoJournalLedger = codes "print journal needs ledger journal before it"
+fault_text (fault.NoJournalLedger keyword) = form_of keyword ++ codes " needs ledger journal before it"

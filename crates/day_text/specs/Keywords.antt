@@ -2,7 +2,7 @@
 use Rattle.std.specs.Prelude.{ℕ, if◌then◌else◌, List, Some, None, codes, Option}
 use Rattle.std.specs.Str.{bytes_eq}
 use Rattle.day_text.specs.declared.keyword.Keyword.{Keyword}
-use Rattle.day_text.specs.declared.keyword.Keyword.TheVariants.{Sheets, Limit, Ledger, Register, Open, Lodge, Start, Reading, Position, Demand, Close, Settle, Adjust, Print}
+use Rattle.day_text.specs.declared.keyword.Keyword.TheVariants.{Sheets, Limit, Ledger, Register, Open, Lodge, Start, Reading, Position, Demand, Close, Settle, Adjust, Print, Statement}
 
 -- the keyword that a word is
 abbrev pub keyword_of : List ℕ → Option Keyword
@@ -21,6 +21,7 @@ keyword_of w =
     else if bytes_eq w (codes "settle") then Some Settle
     else if bytes_eq w (codes "adjust") then Some Adjust
     else if bytes_eq w (codes "print") then Some Print
+    else if bytes_eq w (codes "statement") then Some Statement
     else None
 
 -- the line of a keyword, with a name for each word that changes
@@ -39,3 +40,4 @@ form_of Close = codes "close INTERVAL"
 form_of Settle = codes "settle INTERVAL"
 form_of Adjust = codes "adjust FACILITY INTERVAL KWMIN"
 form_of Print = codes "print journal"
+form_of Statement = codes "statement ACCOUNT PAGE"

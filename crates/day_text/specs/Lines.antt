@@ -1,17 +1,18 @@
 -- What a line of a day file says, for every string of bytes.
 use Rattle.std.specs.Prelude.{ℕ, Bool, true, if◌then◌else◌, List, [], ◌∷◌, drop, Some, None, Ok, Err, Option, Result, ◌==◌}
 use Rattle.offers.specs.declared.pair.Pair.{Pair}
+use Rattle.text.specs.Lines.{and_then}
 use Rattle.day_text.specs.declared.keyword.Keyword.{Keyword}
 use Rattle.day_text.specs.declared.keyword.Keyword.TheVariants as keyword
 use Rattle.day_text.specs.declared.fault.WordFault.{WordFault}
 use Rattle.day_text.specs.declared.fault.Fault.{Fault}
 use Rattle.day_text.specs.declared.fault.Fault.TheVariants.{UnknownWord, Words as WrongWords}
 use Rattle.day_text.specs.declared.line.DayLine.{DayLine}
-use Rattle.day_text.specs.declared.line.DayLine.TheVariants.{Blank, Sheets, Limit, Journal, Register, Open, Lodge, Start, Reading, Position, Demand, Close, Settle, Adjust, PrintJournal}
+use Rattle.day_text.specs.declared.line.DayLine.TheVariants.{Blank, Sheets, Limit, Journal, Register, Open, Lodge, Start, Reading, Position, Demand, Close, Settle, Adjust, PrintJournal, Statement}
 use Rattle.day_text.specs.declared.arguments.Target.{Target}
 use Rattle.day_text.specs.Keywords.{keyword_of}
 use Rattle.day_text.specs.Signs.{all_text, spaced_from}
-use Rattle.day_text.specs.Words.{Words, word_list, words, next_word, and_then, first, past, ended, natural, no_number, number, no_number_of_32, integer, no_integer, cents, no_cents, pairs_from, pairs_in}
+use Rattle.day_text.specs.Words.{Words, word_list, words, next_word, first, past, ended, natural, no_number, number, no_number_of_32, integer, no_integer, cents, no_cents, pairs_from, pairs_in}
 
 -- a line, or what is wrong with the words after its keyword
 abbrev pub Said : Type 0
@@ -86,6 +87,10 @@ lodge_of ws =
     and_then (figure ws) (λ f. and_then (figure f.1) (λ i. and_then (figure i.1) (λ u. and_then (figure u.1) (λ d.
     and_then (pairs_from d.1.passed d.1.left) (λ _. Ok (Lodge f.0 i.0 u.0 d.0))))))
 
+-- an account and the number of a page, and no other word
+abbrev pub statement_of : Words → Said
+statement_of ws = and_then (figure ws) (λ a. and_then (figure a.1) (λ p. ended (Statement a.0 p.0) p.1))
+
 -- ---- any line
 abbrev pub arguments_of : Keyword → Words → Said
 arguments_of keyword.Sheets ws = sheets_of ws
@@ -102,6 +107,7 @@ arguments_of keyword.Close ws = close_of ws
 arguments_of keyword.Settle ws = settle_of ws
 arguments_of keyword.Adjust ws = adjust_of ws
 arguments_of keyword.Print ws = print_of ws
+arguments_of keyword.Statement ws = statement_of ws
 
 abbrev pub of_words : Keyword → Said → Result DayLine Fault
 of_words k (Ok l) = Ok l

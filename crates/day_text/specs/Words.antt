@@ -5,7 +5,7 @@ use Rattle.std.specs.Option.{option_map, option_and_then}
 use Rattle.std.specs.Result.{result_ok}
 use Rattle.std.specs.Str.{bytes_eq}
 use Rattle.text.specs.Numbers.{natural_of, signed_of}
-use Rattle.text.specs.Lines.{before, after as bytes_after}
+use Rattle.text.specs.Lines.{before, after as bytes_after, and_then}
 use Rattle.offers.specs.declared.pair.Pair.{Pair}
 use Rattle.day_text.specs.declared.fault.WordFault.{WordFault}
 use Rattle.day_text.specs.declared.fault.WordFault.TheVariants.{Missing, TooMany, NoNumber, NoPair, NoJournal}
@@ -41,11 +41,6 @@ after_of p (w ∷ ws) = record { passed = p + 1; left = ws }
 
 abbrev pub after : Words → Words
 after ws = after_of ws.passed ws.left
-
--- the next step, unless one failed before
-abbrev pub and_then : {X Y E : Type 0} → Result X E → (X → Result Y E) → Result Y E
-and_then (Ok x) f = f x
-and_then (Err e) f = Err e
 
 abbrev pub or_wrong : {X : Type 0} → Option X → WordFault → Result X WordFault
 or_wrong (Some x) e = Ok x

@@ -1,7 +1,7 @@
 //! Each line by the words after its keyword.
 ghost use Rattle.std.specs.Prelude.{◌≡◌};
 ghost use Rattle.std.specs.Result.{result_map_both as mapped_both};
-ghost use Rattle.day_text.specs.Lines.{sheets_of, limit_of, journal_of, print_of, register_of, open_of, targeted, position_of, demand_of, interval_of, lodge_of, arguments_of};
+ghost use Rattle.day_text.specs.Lines.{sheets_of, limit_of, journal_of, print_of, register_of, open_of, targeted, position_of, demand_of, interval_of, lodge_of, statement_of, arguments_of};
 
 use crate::fault::WordFault;
 use crate::keyword::Keyword;
@@ -50,9 +50,9 @@ fn print(mut words: Words) -> Result<DayLine, WordFault>
     words.end(DayLine::PrintJournal)
 }
 
-// Kept: this and `position`, as `open` and `demand`, read as many words, but not the same kinds of
-// number; one function for both would be generic over each word, and take a closure that names the
-// fields a second time.
+// Kept: this and `position`, as `open`, `demand` and `statement`, read as many words, but not the
+// same kinds of number, or for other fields; one function for all would be generic over each word,
+// and take a closure that names the fields a second time.
 fn register(mut words: Words) -> Result<DayLine, WordFault>
     ensures { result ≡ register_of words.entry }
 {
@@ -127,6 +127,14 @@ fn lodge(mut words: Words) -> Result<DayLine, WordFault>
     Ok(line)
 }
 
+fn statement(mut words: Words) -> Result<DayLine, WordFault>
+    ensures { result ≡ statement_of words.entry }
+{
+    let account = words.read()?;
+    let page = words.read()?;
+    words.end(DayLine::Statement { account, page })
+}
+
 /// The line of the keyword with the words after it.
 pub fn arguments(keyword: Keyword, words: Words) -> Result<DayLine, WordFault>
     ensures { result ≡ arguments_of keyword words.entry }
@@ -159,5 +167,6 @@ pub fn arguments(keyword: Keyword, words: Words) -> Result<DayLine, WordFault>
             kwmin: t.figure,
         }),
         Keyword::Print => print(words),
+        Keyword::Statement => statement(words),
     }
 }

@@ -91,8 +91,11 @@ pub enum Fault {
         /// The account.
         account: u32,
     },
-    /// A `print journal` with no `ledger journal` before it.
-    NoJournalLedger,
+    /// A `print journal` or a `statement` with no `ledger journal` before it.
+    NoJournalLedger {
+        /// The first word of the line.
+        keyword: Keyword,
+    },
 }
 
 impl fmt::Display for Span {
@@ -156,7 +159,9 @@ impl fmt::Display for Fault {
             Fault::NoAccount { account } => {
                 write!(f, "no ledger here has account {account}: they have 0 to 11")
             }
-            Fault::NoJournalLedger => write!(f, "print journal needs ledger journal before it"),
+            Fault::NoJournalLedger { keyword } => {
+                write!(f, "{keyword} needs ledger journal before it")
+            }
         }
     }
 }

@@ -36,6 +36,8 @@ pub enum Keyword {
     Adjust,
     /// `print`, that the journal is printed.
     Print,
+    /// `statement`, that a page of an account's statement is printed.
+    Statement,
 }
 
 impl fmt::Display for Keyword {
@@ -57,6 +59,7 @@ impl fmt::Display for Keyword {
             Keyword::Settle => "settle INTERVAL",
             Keyword::Adjust => "adjust FACILITY INTERVAL KWMIN",
             Keyword::Print => "print journal",
+            Keyword::Statement => "statement ACCOUNT PAGE",
         })
     }
 }
@@ -80,6 +83,7 @@ pub fn keyword_of(word: &[u8]) -> Option<Keyword>
         b"settle" => Some(Keyword::Settle),
         b"adjust" => Some(Keyword::Adjust),
         b"print" => Some(Keyword::Print),
+        b"statement" => Some(Keyword::Statement),
         _ => None,
     }
 }

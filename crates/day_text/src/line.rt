@@ -110,4 +110,11 @@ pub enum DayLine {
     },
     /// The journal's lines are asked for.
     PrintJournal,
+    /// A page of an account's statement is asked for.
+    Statement {
+        /// The account.
+        account: u32,
+        /// The number of the page.
+        page: u32,
+    },
 }

@@ -119,6 +119,20 @@ mod tests {
             Ok(DayLine::Journal { lines: 1_000_000 })
         );
         assert_eq!(rt; parse(b"print journal"), Ok(DayLine::PrintJournal));
+        assert_eq!(rt;
+            parse(b"statement 0 4294967295"),
+            Ok(DayLine::Statement {
+                account: 0,
+                page: 4_294_967_295
+            })
+        );
+        assert_eq!(rt;
+            parse(b"statement 4294967295 0"),
+            Ok(DayLine::Statement {
+                account: 4_294_967_295,
+                page: 0
+            })
+        );
         assert_eq!(rt; parse(b""), Ok(DayLine::Blank), "empty");
         assert_eq!(rt; parse(b"#close 1"), Ok(DayLine::Blank), "a comment");
         assert_eq!(rt;
@@ -181,6 +195,7 @@ mod tests {
     fn words(rt: HostRuntime) {
         assert_eq!(rt; parse(b"Demand 1 2"), Err(Fault::UnknownWord));
         assert_eq!(rt; parse(b"demands 1 2"), Err(Fault::UnknownWord));
+        assert_eq!(rt; parse(b"statements 1 1"), Err(Fault::UnknownWord));
         assert_eq!(rt; parse(b"4000"), Err(Fault::UnknownWord));
         assert_eq!(rt;
             wrong(b"demand 1"),
@@ -197,6 +212,14 @@ mod tests {
         assert_eq!(rt;
             wrong(b"lodge 1 2 3"),
             Some((Keyword::Lodge, WordFault::Missing))
+        );
+        assert_eq!(rt;
+            wrong(b"statement 1"),
+            Some((Keyword::Statement, WordFault::Missing))
+        );
+        assert_eq!(rt;
+            wrong(b"statement 1 2 3"),
+            Some((Keyword::Statement, WordFault::TooMany { word: 4 }))
         );
         assert_eq!(rt;
             wrong(b"demand 1 2 3 4"),
@@ -237,6 +260,14 @@ mod tests {
         assert_eq!(rt;
             wrong(b"demand 1 4294967296"),
             Some((Keyword::Demand, no_number(3, 0, MOST)))
+        );
+        assert_eq!(rt;
+            wrong(b"statement 4294967296 1"),
+            Some((Keyword::Statement, no_number(2, 0, MOST)))
+        );
+        assert_eq!(rt;
+            wrong(b"statement 1 4294967296"),
+            Some((Keyword::Statement, no_number(3, 0, MOST)))
         );
         assert_eq!(rt;
             wrong(b"limit 3 83,692"),

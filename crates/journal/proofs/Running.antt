@@ -1,7 +1,9 @@
 -- The running balances beside the lines: none yet, and one line more.
 use Rattle.std.proofs.Common.{◌≡◌, ℕ, suc, ◌+◌, ◌-◌, ◌<◌, ◌≤◌, false, eqb, ◌≢◌, List, [], ◌∷◌, ◌++◌, length, get_or, take, drop, set, replicate, ℤ, pos, ◌+ℤ◌, None, sym, refl, ap, ◌∙◌, subst, inr, ⊎_elim, add-one, arith, get_or-set_other, get_or-set_same, w64, SFits}
 use lib.Seq.{set_split}
+use Rattle.std.proofs.lemmas.Int.{ints}
 use Rattle.std.proofs.lemmas.List.{get_or-replicate, take_more_set, append_assoc, length-set, length-take-le}
+use Rattle.std.proofs.lemmas.List.Elements.{All-push}
 use Rattle.std.proofs.lemmas.List.Sums.{fold_push}
 use Rattle.std.proofs.lemmas.Bool.{eq-eqb, ne_eqb, cond-true, cond-false, cases_eq, eqb-false, ltb-true}
 use Rattle.ledger.specs.View.{InSpan}
@@ -9,7 +11,7 @@ use Rattle.ledger.specs.Posting.{refusal, Posted}
 use Rattle.ledger.proofs.Tested.{taken_because, taken_in_span, span_fits}
 use Rattle.journal.specs.declared.line.Line.{Line}
 use Rattle.journal.specs.Extending.{Extended}
-use Rattle.journal.specs.Lines.{add_line, line_sum, room, journal_view, journal_sound, Running, Spans}
+use Rattle.journal.specs.Lines.{add_line, line_sum, room, journal_view, journal_sound, InMove, MovesFit, Running, Spans}
 
 pub running_none : Running (replicate 12 (pos 0)) []
 running_none a l = get_or-replicate 12 a (pos 0) (pos 0) l
@@ -38,6 +40,10 @@ module _ (ls : List Line) (a : ℕ) (x : ℤ) where
       (λ (e : k ≡ a). subst (λ j. InSpan (line_sum j (ls ++ (one_line a x ∷ [])))) (sym e) (subst InSpan (sym sum_here) sum))
       (λ (ne : k ≢ a). subst InSpan (sym (sum_there k ne)) (spans k l))
       (cases_eq k a)
+
+-- from one figure in the span of money to another it is no further than from end to end
+moved_at_most : (b x : ℤ) → InSpan b → InSpan (b +ℤ x) → InMove x
+moved_at_most b x h k = (omega (arith, ints, h.0, h.1, k.0, k.1), omega (arith, ints, h.0, h.1, k.0, k.1))
 
 module _ (ls : List Line) (u a : ℕ) (x : ℤ) (free : u < room ls) where
   -- the lines in use after a post
@@ -78,11 +84,12 @@ pub record OneMore (ls : List Line) (u : ℕ) (zs : List ℤ) (a : ℕ) (x : ℤ
   pub slots : length (set zs a (get_or zs a (pos 0) +ℤ x)) ≡ 12
   pub running : Running (set zs a (get_or zs a (pos 0) +ℤ x)) (take (u + 1) (set ls u (one_line a x)))
   pub spans : Spans (take (u + 1) (set ls u (one_line a x)))
+  pub moves : MovesFit (take (u + 1) (set ls u (one_line a x)))
   pub extended : Extended ls u (record { account = a; cents = x } ∷ []) (set ls u (one_line a x)) (u + 1)
   pub posted : Posted (journal_view ls u) a x (journal_view (set ls u (one_line a x)) (u + 1))
 
-pub one_more : (ls : List Line) (u : ℕ) (zs : List ℤ) (a : ℕ) (x : ℤ) → u ≤ room ls → length zs ≡ 12 → Running zs (take u ls) → Spans (take u ls) → refusal (journal_view ls u) a x ≡ None → OneMore ls u zs a x
-one_more ls u zs a x within twelve run spans ok =
+pub one_more : (ls : List Line) (u : ℕ) (zs : List ℤ) (a : ℕ) (x : ℤ) → u ≤ room ls → length zs ≡ 12 → Running zs (take u ls) → Spans (take u ls) → MovesFit (take u ls) → refusal (journal_view ls u) a x ≡ None → OneMore ls u zs a x
+one_more ls u zs a x within twelve run spans moves ok =
     let v = journal_view ls u in
     let why = taken_because v a x ok in
     let here : a < 12 = ltb-true a 12 why.0 in
@@ -95,6 +102,7 @@ one_more ls u zs a x within twelve run spans ok =
       slots = simp length-set twelve;
       running = subst (Running (set zs a (get_or zs a (pos 0) +ℤ x))) (sym more) (running_push (take u ls) a x zs twelve here run);
       spans = subst Spans (sym more) (spans_push (take u ls) a x sum spans);
+      moves = subst MovesFit (sym more) (All-push (λ l. InMove l.cents) (take u ls) (one_line a x) moves (moved_at_most (line_sum a (take u ls)) x (spans a here) sum));
       extended = record { used = omega arith; lines = line_written ls u a x (omega arith); size = length-set ls u (one_line a x) };
       posted = journal_posted ls u a x free;
     }

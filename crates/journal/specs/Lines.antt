@@ -1,8 +1,9 @@
 -- A journal's lines, and the ledger that they are.
-use Rattle.std.specs.Prelude.{◌≡◌, ℕ, ◌+◌, ◌-◌, ◌<◌, min, cond, List, [], ◌∷◌, ◌++◌, length, take, ℤ, pos, ◌+ℤ◌, neg_ℤ, Some, None, Ok, Err, fold, Option, Result, ◌==◌, slice_index_or, slice_set}
+use Rattle.std.specs.Prelude.{◌≡◌, ℕ, ◌+◌, ◌-◌, ◌<◌, min, cond, List, [], ◌∷◌, ◌++◌, length, take, ℤ, pos, ◌+ℤ◌, neg_ℤ, ◌≤ℤ◌, Some, None, Ok, Err, fold, Option, Result, ◌==◌, slice_index_or, slice_set}
 use Rattle.std.proofs.Common.{lit≤}
 use Rattle.std.proofs.Math.Nat.{le_trans, min-le_right, sub-le}
 use Rattle.std.specs.Int.Signed.{le_z_yes}
+use Rattle.std.specs.List.{All}
 use Rattle.ledger.specs.declared.reason.Reason.{Reason}
 use Rattle.ledger.specs.View.{View, most, InSpan, Sound}
 use Rattle.ledger.specs.Posting.{refusal}
@@ -40,6 +41,17 @@ Running zs ls = (a : ℕ) → a < 12 → slice_index_or zs a (pos 0) ≡ line_su
 
 abbrev pub Spans : List Line → Type 0
 Spans ls = (a : ℕ) → a < 12 → InSpan (line_sum a ls)
+
+-- a post moves a balance at most from one end of the span of money to the other
+abbrev pub most_moved : ℤ
+most_moved = pos 2000000000000000
+
+abbrev pub InMove : ℤ → Type 0
+InMove z = (neg_ℤ most_moved ≤ℤ z) × (z ≤ℤ most_moved)
+
+-- no line moves its account further
+abbrev pub MovesFit : List Line → Type 0
+MovesFit ls = All (λ l. InMove l.cents) ls
 
 -- A journal keeps the spans of a ledger. It stands here since a law of an impl can cite no proof of
 -- its own crate.

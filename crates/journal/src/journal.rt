@@ -4,7 +4,7 @@ ghost use Rattle.std.specs.Prelude.{◌≡◌, ◌≤◌, length, take, refl};
 ghost use Rattle.std.proofs.Common.{◌∙◌};
 ghost use Rattle.ledger.specs.Posting.{Answered, taken};
 ghost use Rattle.journal.specs.Extending.{Extended, extended_none, extended_more};
-ghost use Rattle.journal.specs.Lines.{Running, Spans, room, journal_view, journal_sound, Written};
+ghost use Rattle.journal.specs.Lines.{Running, Spans, MovesFit, room, journal_view, journal_sound, Written};
 
 use crate::line::Line;
 use ledger::accounts::{Accounts, Ledger, MOST};
@@ -18,7 +18,8 @@ const LINES: usize = 4_096;
 
 /// A journal of twelve accounts, 0 to 11: each post taken is a line in memory that the caller
 /// lends, and a balance is the sum of its account's lines.
-/// It uses at most 4,096 lines, however long the memory is.
+/// It uses at most 4,096 lines, however long the memory is, and no line moves its account by more
+/// than 2,000,000,000,000,000 cents.
 // Kept: the memory is the caller's, so the lines are a lent slice and the number of those in use.
 #[derive(Drop)]
 pub struct Journal<'a> {
@@ -30,6 +31,7 @@ pub struct Journal<'a> {
     ghost slots: { length balances ≡ 12 },
     ghost running: { Running balances (take used lines.now) },
     ghost spans: { Spans (take used lines.now) },
+    ghost moves: { MovesFit (take used lines.now) },
 }
 
 impl<'a> Journal<'a> {
@@ -52,6 +54,7 @@ impl<'a> Journal<'a> {
     pub fn posted(&self) -> &[Line]
         ensures lines { result.now ≡ posted_of self.now }
         ensures count { length result.now ≡ used_of self.now }
+        ensures moves { MovesFit result.now }
     {
         &self.lines[..self.used]
     }

@@ -53,6 +53,9 @@ const LINES: &str = "Lines of a day file:
       a corrected reading
   print journal
       the journal's lines are printed behind the balances
+  statement ACCOUNT PAGE
+      after ledger journal: a page, 1 to 64, of the postings to account 0 to 11, 64 to a
+      page, and the account's balance are printed behind the journal's lines
 A file with a faulty line settles nothing: each of them is told, and the status is 1.";
 
 /// Reads the whole input, settles it as a day file, and writes the text that it is answered. After an

@@ -7,7 +7,7 @@ use std::alloc::{AllocError, Global};
 use std::test::Fail;
 use streams_tests::{Sink, Source};
 
-const KEYWORDS: [Keyword; 14] = [
+const KEYWORDS: [Keyword; 15] = [
     Keyword::Sheets,
     Keyword::Limit,
     Keyword::Ledger,
@@ -22,6 +22,7 @@ const KEYWORDS: [Keyword; 14] = [
     Keyword::Settle,
     Keyword::Adjust,
     Keyword::Print,
+    Keyword::Statement,
 ];
 
 // A comment so long, and two calls behind it; the last line lacks its line feed.

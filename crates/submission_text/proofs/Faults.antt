@@ -1,25 +1,20 @@
 -- A submission is read by a plan of lines, so its first faulty line is told, and there is one.
-use Rattle.std.proofs.Common.{◌≡◌, ℕ, zero, suc, ◌+◌, ◌-◌, ◌↔◌, List, [], ◌∷◌, ◌++◌, pos, Ok, Err, codes, Result, IfErr, sym, refl, ap, ◌∙◌, arith, add-one, ◌<◌, subst, ⊎_elim}
-use Rattle.std.proofs.lemmas.Bool.{cases_lt}
-use Rattle.text.specs.declared.line.LineFault.{LineFault}
-use Rattle.text.specs.declared.line.LineFault.TheVariants.{Key, Number, Feed, Extra}
+use Rattle.std.proofs.Common.{◌≡◌, ℕ, zero, suc, ◌+◌, ◌-◌, ◌↔◌, List, [], ◌∷◌, ◌++◌, pos, Ok, Err, codes, Result, IfErr, sym, refl, ap, ◌∙◌, arith, add-one}
 use Rattle.text.specs.declared.refusal.Refusal.{Refusal}
-use Rattle.text.specs.Refusals.{refusal_number, cause}
 use Rattle.text.specs.Numbers.{natural_of}
-use Rattle.text.specs.Lines.{natural_line_of, placed}
+use Rattle.text.specs.Lines.{natural_line_of, placed, and_then, closed}
 use Rattle.text.proofs.Canonical.{ok_in_span}
 use Rattle.text.proofs.Lined.{Plain}
 use Rattle.offers.specs.declared.pair.Pair.{Pair}
 use Rattle.offers.specs.Curves.{curve, stored}
 use Rattle.submission_text.specs.declared.file.Head.{Head}
 use Rattle.submission_text.specs.declared.file.SubmissionFile.{SubmissionFile}
-use Rattle.submission_text.specs.Read.{and_then, priced, pair_of, pair_line_of, pairs_from, curved, closed, file_of, read_of}
-use Rattle.submission_text.specs.Faults.{CanGoOn, FaultAfter, IsAccepted, due_key, FirstFault, OneFault}
+use Rattle.submission_text.specs.Read.{priced, pair_of, pair_line_of, pairs_from, curved, file_of, read_of}
+use Rattle.submission_text.specs.Faults.{IsAccepted, due_key, FirstFault, OneFault}
 use Rattle.submission_text.proofs.Claims.{reads_lines}
 use Rattle.submission_text.proofs.Trips.{plain_facility, plain_interval, plain_up, plain_down, plain_pairs, plain_pair}
-use Rattle.submission_text.proofs.FirstLines.{same_fewer}
-use Rattle.submission_text.proofs.Plans.{Plan, run, Runs, Sound, Good, retold, first_faulty}
-use Rattle.submission_text.proofs.Plans.Plan.{done, line}
+use Rattle.text.proofs.Plans.{Plan, run, Runs, Sound, Good, Due, then_same, then_joined, first_fault_of, one_fault_of}
+use Rattle.text.proofs.Plans.Plan.{done, line}
 
 -- ---- the plan
 abbrev pairs_plan : Head → ℕ → ℕ → List Pair → Plan SubmissionFile
@@ -37,16 +32,6 @@ file_plan =
     pairs_plan record { facility = f; interval = i; ramp_up = u; ramp_down = d } n 1000000 [])))))
 
 -- ---- it reads what the definition reads
-then_same : {X Y E : Type 0} (r : Result X E) (f g : X → Result Y E)
-    → ((x : X) → f x ≡ g x) → and_then r f ≡ and_then r g
-then_same (Ok x) f g h = h x
-then_same (Err e) f g h = refl
-
-then_joined : {X Y Z E : Type 0} (r : Result X E) (f : X → Result Y E) (g : Y → Result Z E)
-    (h : X → Result Z E) → ((x : X) → and_then (f x) g ≡ h x) → and_then (and_then r f) g ≡ and_then r h
-then_joined (Ok x) f g h k = k x
-then_joined (Err e) f g h k = refl
-
 -- the file of these pairs, if nothing follows them
 abbrev filed : Head → ℕ → Result (List Pair × List ℕ) Refusal → Result SubmissionFile Refusal
 filed h end r = and_then (curved r) (λ q. closed end q.1 (file_of h q.0))
@@ -80,15 +65,13 @@ file_run s =
 
 -- ---- its lines are sound
 sound_figure : (key : List ℕ) (low high : ℕ) → Plain key → natural_of low high (codes "1") ≡ Ok 1
-    → Sound key key (natural_of low high)
+    → Sound key (natural_of low high)
 sound_figure key low high k e =
-    record { own = refl; plain = k; sample = codes "1"; value = 1; read = e; free = (refl, tt) }
+    record { plain = k; sample = codes "1"; value = 1; read = e; free = (refl, tt) }
 
-sound_pair : (room : ℕ) (due : List ℕ) → codes "pair" ≡ due
-    → Sound due (codes "pair") (pair_of room)
-sound_pair room due e =
+sound_pair : (room : ℕ) → Sound (codes "pair") (pair_of room)
+sound_pair room =
     record {
-      own = e;
       plain = plain_pair;
       sample = codes "0:0";
       value = record { price = pos 0; kw = 0 };
@@ -96,28 +79,52 @@ sound_pair room due e =
       free = (refl, (refl, (refl, tt)));
     }
 
-pairs_good : (h : Head) (n room : ℕ) (ps : List Pair) (due : ℕ → List ℕ)
-    → ((k : ℕ) → codes "pair" ≡ due k) → Good (pairs_plan h n room ps) due
-pairs_good h zero room ps due e = tt
-pairs_good h (suc n) room ps due e =
-    let later = λ (k : ℕ). due (suc k) in
-    (sound_pair room (due 0) (e 0), λ p. pairs_good h n (room - p.kw) (ps ++ (p ∷ [])) later (λ k. e (suc k)))
+pairs_good : (h : Head) (n room : ℕ) (ps : List Pair) → Good (pairs_plan h n room ps)
+pairs_good h zero room ps = tt
+pairs_good h (suc n) room ps = (sound_pair room, λ p. pairs_good h n (room - p.kw) (ps ++ (p ∷ [])))
 
-file_good : Good file_plan due_key
-file_good =
+file_good : Good file_plan
+file_good = (
+  sound_figure (codes "facility") 1 12 plain_facility refl,
+  λ f. (
+    sound_figure (codes "interval") 1 48 plain_interval refl,
+    λ i. (
+      sound_figure (codes "rampup") 1 1000000 plain_up refl,
+      λ u. (
+        sound_figure (codes "rampdown") 1 1000000 plain_down refl,
+        λ d. (
+          sound_figure (codes "pairs") 0 8 plain_pairs refl,
+          λ n.
+              let h : Head = record { facility = f; interval = i; ramp_up = u; ramp_down = d } in
+              pairs_good h n 1000000 [],
+        ),
+      ),
+    ),
+  ),
+)
+
+-- its keys are those that are due
+pairs_due : (h : Head) (n room : ℕ) (ps : List Pair) (due : ℕ → List ℕ) (s : List ℕ)
+    → ((k : ℕ) → codes "pair" ≡ due k) → Due (pairs_plan h n room ps) due s
+pairs_due h zero room ps due s e = tt
+pairs_due h (suc n) room ps due s e =
+    (e 0, λ p rest read. pairs_due h n (room - p.kw) (ps ++ (p ∷ [])) (λ k. due (suc k)) rest (λ k. e (suc k)))
+
+file_due : (s : List ℕ) → Due file_plan due_key s
+file_due s =
     let later = λ (k : ℕ). due_key (suc (suc (suc (suc (suc k))))) in (
-      sound_figure (codes "facility") 1 12 plain_facility refl,
-      λ f. (
-        sound_figure (codes "interval") 1 48 plain_interval refl,
-        λ i. (
-          sound_figure (codes "rampup") 1 1000000 plain_up refl,
-          λ u. (
-            sound_figure (codes "rampdown") 1 1000000 plain_down refl,
-            λ d. (
-              sound_figure (codes "pairs") 0 8 plain_pairs refl,
-              λ n.
+      refl,
+      λ f s₁ e₁. (
+        refl,
+        λ i s₂ e₂. (
+          refl,
+          λ u s₃ e₃. (
+            refl,
+            λ d s₄ e₄. (
+              refl,
+              λ n s₅ e₅.
                   let h : Head = record { facility = f; interval = i; ramp_up = u; ramp_down = d } in
-                  pairs_good h n 1000000 [] later (λ k. refl),
+                  pairs_due h n 1000000 [] later s₅ (λ k. refl),
             ),
           ),
         ),
@@ -125,14 +132,7 @@ file_good =
     )
 
 pub first_fault : (s : List ℕ) (r : Refusal) → read_of s ≡ Err r → FirstFault s r
-first_fault s r e =
-    let h = first_faulty file_plan due_key file_good 1 s r (sym (file_run s) ∙ e) in
-    let at = h.1 in
-    record {
-      good = h.0;
-      place = omega arith;
-      fault = retold (Runs file_plan 1) IsAccepted due_key s h.0 _ read h.2;
-    }
+first_fault s r e = first_fault_of file_plan IsAccepted due_key file_good read s (file_due s) r (sym (file_run s) ∙ e)
   where
     read : (t : List ℕ) → Runs file_plan 1 t ↔ IsAccepted t
     read t = (
@@ -145,39 +145,5 @@ pub first_faults : (s : List ℕ) (r : Result SubmissionFile Refusal) → r ≡ 
 first_faults s (Ok x) e = tt
 first_faults s (Err d) e = first_fault s d (sym e)
 
--- ---- one text, one fault
-goes_less : (A : List ℕ → Type 0) (s : List ℕ) (k n m : ℕ) → m ≡ k + n → CanGoOn A m s → CanGoOn A n s
-goes_less A s zero n m e z = let q : m ≡ n = omega arith in subst (λ x. CanGoOn A x s) q z
-goes_less A s (suc k) n m e z =
-    let q : m ≡ suc (k + n) = omega arith in
-    let more : CanGoOn A (suc (k + n)) s = subst (λ x. CanGoOn A x s) q z in
-    goes_less A s k n (k + n) refl (more.0, more.1, same_fewer (k + n) s more.0 more.2)
-
-module _ (A : List ℕ → Type 0) (due : ℕ → List ℕ) (s : List ℕ) where
-  not_before : (m n a b : ℕ) → FaultAfter A due s m a → FaultAfter A due s n b → m < n → ⊥
-  not_before m n a b g h lt =
-      let e : n ≡ (n - suc m) + suc m = omega arith in g.faulty (goes_less A s (n - suc m) (suc m) n e h.begun)
-
-  one_place : (m n a b : ℕ) → FaultAfter A due s m a → FaultAfter A due s n b → m ≡ n
-  one_place m n a b g h =
-      ⊎_elim
-      (λ lt. absurd (not_before m n a b g h lt))
-      (λ le. ⊎_elim (λ lt. absurd (not_before n m b a h g lt)) (λ ge. omega arith) (cases_lt n m))
-      (cases_lt m n)
-
-  one_number : (f : LineFault) (n b : ℕ) → FaultAfter A due s n (refusal_number (cause f))
-      → FaultAfter A due s n b → b ≡ refusal_number (cause f)
-  one_number Key n b g h = h.wrong_key.1 (g.wrong_key.0 refl)
-  one_number (Number d) n b g h = h.bad_number.1 (g.bad_number.0 refl)
-  one_number Feed n b g h = h.bad_end.1 (g.bad_end.0 refl)
-  one_number Extra n b g h = h.bad_end.1 (g.bad_end.0 refl)
-
 pub one_fault : OneFault
-one_fault s q r g h =
-    let a = refusal_number (cause q.fault) in
-    let b = refusal_number (cause r.fault) in
-    let same = one_place IsAccepted due_key s g.good h.good a b g.fault h.fault in
-    let here = subst (λ n. FaultAfter IsAccepted due_key s n a) same g.fault in (
-      g.place ∙ ap suc same ∙ sym h.place,
-      one_number IsAccepted due_key s r.fault h.good a h.fault here,
-    )
+one_fault s q r g h = one_fault_of IsAccepted due_key s q r g h

@@ -3,6 +3,4 @@ pub mod Writing
 pub mod Trips
 pub mod Only
 pub mod Claims
-pub mod FirstLines
-pub mod Plans
 pub mod Faults

@@ -4,10 +4,10 @@ use Rattle.std.proofs.lemmas.List.{length-set, take_all, take_more_set}
 use Rattle.std.proofs.lemmas.Bool.{cond-true}
 use Rattle.std.proofs.lemmas.Bool.Decides.{nat_tests}
 use Rattle.text.specs.declared.refusal.Refusal.{Refusal}
-use Rattle.text.specs.Lines.{placed}
+use Rattle.text.specs.Lines.{placed, and_then}
 use Rattle.offers.specs.declared.pair.Pair.{Pair}
 use Rattle.offers.specs.Curves.{total, curve, stored, curve_of}
-use Rattle.submission_text.specs.Read.{and_then, pair_line_of, pairs_from, pairs_of, curved}
+use Rattle.submission_text.specs.Read.{pair_line_of, pairs_from, pairs_of, curved}
 
 -- the first i of n pairs are read, and what is left of the text gives the others
 pub record Listed (text : List ℕ) (n end i room : ℕ) (pairs : List Pair) (rest : List ℕ) : Type 0 where

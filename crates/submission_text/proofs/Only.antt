@@ -7,24 +7,16 @@ use Rattle.text.specs.declared.refusal.Refusal.{Refusal}
 use Rattle.text.specs.Numbers.{natural_of, signed_of}
 use Rattle.text.specs.Lines.{before, after, natural_line_of, placed, line_text}
 use Rattle.text.proofs.Canonical.{natural_written, signed_written}
-use Rattle.text.proofs.Lined.{apart_ok, same_ok, joined_cut, line_only, natural_line_only, placed_ok}
+use Rattle.text.proofs.Lined.{apart_ok, same_ok, joined_cut, line_only, natural_line_only, and_then_ok, closed_ok, placed_ok}
 use Rattle.offers.specs.declared.pair.Pair.{Pair}
 use Rattle.offers.specs.declared.curve.Curve.{Curve}
 use Rattle.offers.specs.Curves.{total, curve, stored}
 use Rattle.submission_text.specs.declared.file.Head.{Head}
 use Rattle.submission_text.specs.declared.file.SubmissionFile.{SubmissionFile}
-use Rattle.submission_text.specs.Read.{and_then, priced, rated, pair_of, pair_line_of, pairs_from, pairs_of, curved, closed, head_of, file_of, read_of}
+use Rattle.submission_text.specs.Read.{priced, rated, pair_of, pair_line_of, pairs_from, pairs_of, curved, head_of, file_of, read_of}
 use Rattle.submission_text.specs.Write.{head, pair_text, pairs_text, head_text, file_text}
 use Rattle.submission_text.specs.Claims.{HeadFits, PricesFit, PairsFit, Told}
 use Rattle.submission_text.proofs.Trips.{pair_line_text, head_line_text, low_price, high_price}
-
-and_then_ok : {X Y E : Type 0} (r : Result X E) (f : X → Result Y E) (y : Y) → and_then r f ≡ Ok y → (x : X) × (r ≡ Ok x) × (f x ≡ Ok y)
-and_then_ok (Ok x) f y q = (x, refl, q)
-and_then_ok (Err e) f y q = absurd (apart_ok e y q)
-
-closed_ok : {X : Type 0} (line : ℕ) (t : List ℕ) (x y : X) → closed line t x ≡ Ok y → (t ≡ []) × (x ≡ y)
-closed_ok line [] x y q = (refl, same_ok {E = Refusal} x y q)
-closed_ok line (c ∷ cs) x y q = absurd (apart_ok _ y q)
 
 curved_ok : (r : Result (List Pair × List ℕ) Refusal) (c : Curve) (t : List ℕ) → curved r ≡ Ok (c, t)
     → (ps : List Pair) × (r ≡ Ok (ps, t)) × (stored (curve ps) ≡ c)

@@ -4,14 +4,14 @@ use Rattle.std.proofs.lemmas.List.{append_assoc, append-nil, nil_from_length}
 use Rattle.std.specs.Fmt.{signed_decimal}
 use Rattle.text.specs.declared.line.LineFault.TheVariants.{Extra}
 use Rattle.text.specs.Numbers.{signed_of}
-use Rattle.text.specs.Lines.{after, natural_line_of, placed, line_text}
+use Rattle.text.specs.Lines.{after, natural_line_of, placed, and_then, closed, line_text}
 use Rattle.text.proofs.Canonical.{natural_back, signed_back, in_bits}
 use Rattle.text.proofs.Lined.{before_at, after_at, free_append, no_feed, no_colon, decimal_free, signed_free, Plain, line_back, natural_line_back}
 use Rattle.offers.specs.declared.pair.Pair.{Pair}
 use Rattle.offers.specs.declared.curve.Curve.{Curve}
 use Rattle.offers.specs.Curves.{total, curve, stored}
 use Rattle.submission_text.specs.declared.file.Head.{Head}
-use Rattle.submission_text.specs.Read.{and_then, priced, rated, pair_of, pair_line_of, pairs_from, pairs_of, curved, closed, head_of, file_of, read_of}
+use Rattle.submission_text.specs.Read.{priced, rated, pair_of, pair_line_of, pairs_from, pairs_of, curved, head_of, file_of, read_of}
 use Rattle.submission_text.specs.Write.{pair_text, pairs_text, head_text, file_text}
 use Rattle.submission_text.specs.Claims.{HeadFits, PricesFit, PairsFit}
 

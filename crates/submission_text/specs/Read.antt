@@ -3,20 +3,14 @@ use Rattle.std.specs.Prelude.{ℕ, zero, suc, ◌+◌, ◌-◌, List, [], ◌∷
 use Rattle.text.specs.declared.number.NumberFault.{NumberFault}
 use Rattle.text.specs.declared.number.NumberFault.TheVariants.{Form}
 use Rattle.text.specs.declared.line.LineFault.{LineFault}
-use Rattle.text.specs.declared.line.LineFault.TheVariants.{Extra}
 use Rattle.text.specs.declared.refusal.Refusal.{Refusal}
 use Rattle.text.specs.Numbers.{natural_of, signed_of}
-use Rattle.text.specs.Lines.{before, after, line_of, natural_line_of, placed}
+use Rattle.text.specs.Lines.{before, after, line_of, natural_line_of, placed, and_then, closed}
 use Rattle.offers.specs.declared.pair.Pair.{Pair}
 use Rattle.offers.specs.declared.curve.Curve.{Curve}
 use Rattle.offers.specs.Curves.{curve, stored}
 use Rattle.submission_text.specs.declared.file.Head.{Head}
 use Rattle.submission_text.specs.declared.file.SubmissionFile.{SubmissionFile}
-
--- the next step, unless one was refused before
-abbrev pub and_then : {X Y E : Type 0} → Result X E → (X → Result Y E) → Result Y E
-and_then (Ok x) f = f x
-and_then (Err e) f = Err e
 
 abbrev pub priced : ℤ → Result ℕ NumberFault → Result Pair NumberFault
 priced p (Ok k) = Ok record { price = p; kw = k }
@@ -50,11 +44,6 @@ pairs_of n s = pairs_from n 6 1000000 [] s
 abbrev pub curved : Result (List Pair × List ℕ) Refusal → Result (Curve × List ℕ) Refusal
 curved (Ok x) = Ok (stored (curve x.0), x.1)
 curved (Err e) = Err e
-
--- nothing may follow the last line
-abbrev pub closed : {X : Type 0} → ℕ → List ℕ → X → Result X Refusal
-closed line [] x = Ok x
-closed line (c ∷ cs) x = Err record { line = line; fault = Extra }
 
 -- the four leading figures
 abbrev pub head_of : List ℕ → Result (Head × List ℕ) Refusal

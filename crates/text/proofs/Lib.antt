@@ -4,3 +4,5 @@ pub mod Canonical
 pub mod Cuts
 pub mod Drafting
 pub mod Lined
+pub mod FirstLines
+pub mod Plans

@@ -1,7 +1,7 @@
 -- A line is read from its written form, and from no other bytes.
-use Rattle.std.proofs.Common.{◌≡◌, ℕ, suc, ◌+◌, ◌^◌, ◌<◌, ◌≤◌, true, false, eqb, List, [], ◌∷◌, ◌++◌, length, ℤ, pos, negsuc, IsErrAnd, Some, None, Ok, Err, decimal, Option, Result, sym, refl, ap, ◌∙◌, subst, ⊎_elim, arith}
+use Rattle.std.proofs.Common.{◌≡◌, ℕ, suc, ◌+◌, ◌^◌, ◌<◌, ◌≤◌, true, false, eqb, List, [], ◌∷◌, ◌++◌, length, ℤ, pos, negsuc, ◌≤ℤ◌, IsErrAnd, Some, None, Ok, Err, decimal, Option, Result, sym, refl, ap, ◌∙◌, subst, ⊎_elim, arith, w64, SFits}
 use lib.Signed.{mag}
-use Rattle.std.proofs.lemmas.Fmt.{digits_decimal, length-decimal-le}
+use Rattle.std.proofs.lemmas.Fmt.{digits_decimal, length-decimal-le, length_signed_le}
 use Rattle.std.proofs.lemmas.Slice.Eq.{bytes_eq-Decides}
 use Rattle.std.proofs.lemmas.List.{append_assoc, append-nil, length-append}
 use Rattle.std.proofs.lemmas.Bool.{cond-true, cond-false, cases_Bool, eqb-true, and_parts}
@@ -13,9 +13,9 @@ use Rattle.std.specs.Str.{bytes_eq}
 use Rattle.text.specs.declared.number.NumberFault.{NumberFault}
 use Rattle.text.specs.declared.line.LineFault.{LineFault}
 use Rattle.text.specs.declared.refusal.Refusal.{Refusal}
-use Rattle.text.specs.Numbers.{is_digit, natural_of}
-use Rattle.text.specs.Lines.{before, after, keyed, of_number, valued, ended, line_of, natural_line_of, placed, line_text}
-use Rattle.text.proofs.Canonical.{are_digits, own, natural_back, natural_written}
+use Rattle.text.specs.Numbers.{is_digit, natural_of, signed_of}
+use Rattle.text.specs.Lines.{before, after, keyed, of_number, valued, ended, line_of, natural_line_of, signed_line_of, placed, and_then, closed, line_text, signed_line_text}
+use Rattle.text.proofs.Canonical.{are_digits, own, natural_back, natural_written, in_bits, signed_back, signed_written}
 
 pub apart_ok : {X E : Type 0} (e : E) (x : X) → ◌≡◌ {A = Result X E} (Err e) (Ok x) → ⊥
 apart_ok e x q = let k : ◌≡◌ {A = ℕ} 0 1 = cc in omega arith
@@ -141,6 +141,11 @@ valued_ok : {X : Type 0} (f : List ℕ → Result X NumberFault) (x : X) (o : Op
 valued_ok f x None q = absurd (apart_ok _ x q)
 valued_ok f x (Some v) q = (v, refl, of_number_ok (f v) x q)
 
+-- the value of a line that was read, and what stands behind the line
+pub line_parts : {X : Type 0} (f : List ℕ → Result X NumberFault) (key s : List ℕ) (x : X) (rest : List ℕ) → line_of f key s ≡ Ok (x, rest)
+    → (valued f (keyed key (before 10 s)) ≡ Ok x) × (after 10 s ≡ Some rest)
+line_parts f key s x rest e = ended_ok (valued f (keyed key (before 10 s))) (after 10 s) x rest e
+
 pub line_only : {X : Type 0} (f : List ℕ → Result X NumberFault) (key s : List ℕ) (x : X) (rest : List ℕ) → line_of f key s ≡ Ok (x, rest)
     → (v : List ℕ) × (s ≡ key ++ 61 ∷ (v ++ 10 ∷ rest)) × (f v ≡ Ok x)
 line_only f key s x rest e =
@@ -177,6 +182,43 @@ length_line_text key n lt =
     let b = length-append (decimal n) (10 ∷ []) in
     let d = length-decimal-le 10 n (omega arith) (omega arith) (omega arith) in
     omega arith
+
+-- ---- a line `key=number` with a sign
+signed_line_text_past : (key : List ℕ) (z : ℤ) (t : List ℕ) → signed_line_text key z ++ t ≡ key ++ 61 ∷ (signed_decimal z ++ 10 ∷ t)
+unfolding signed_line_text
+signed_line_text_past key z t =
+    append_assoc key (61 ∷ (signed_decimal z ++ 10 ∷ [])) t ∙ ap (λ l. key ++ 61 ∷ l) (append_assoc (signed_decimal z) (10 ∷ []) t)
+
+pub signed_line_back : (key : List ℕ) → Plain key → (low high z : ℤ) (t : List ℕ) → SFits w64 low → SFits w64 high → low ≤ℤ z → z ≤ℤ high
+    → signed_line_of key low high (signed_line_text key z ++ t) ≡ Ok (z, t)
+signed_line_back key k low high z t fl fh a b =
+    let m = in_bits low high z fl fh a b in
+    ap (signed_line_of key low high) (signed_line_text_past key z t)
+    ∙ line_back (signed_of low high) key k (signed_decimal z) z t (signed_free 10 no_feed refl z m) (signed_back low high z m a b)
+
+pub signed_line_only : (key : List ℕ) (low high : ℤ) (s : List ℕ) (z : ℤ) (rest : List ℕ) → SFits w64 low → SFits w64 high
+    → signed_line_of key low high s ≡ Ok (z, rest) → (s ≡ signed_line_text key z ++ rest) × (low ≤ℤ z) × (z ≤ℤ high)
+signed_line_only key low high s z rest fl fh e =
+    let a = line_only (signed_of low high) key s z rest e in
+    let w = (signed_written low high a.0 fl fh z).0 a.2 in
+    (a.1 ∙ ap (λ v. key ++ 61 ∷ (v ++ 10 ∷ rest)) w.0 ∙ sym (signed_line_text_past key z rest), w.1, w.2)
+
+pub length_signed_line_text : (key : List ℕ) (z : ℤ) → mag z < 2 ^ 63 → length (signed_line_text key z) ≤ length key + 22
+unfolding signed_line_text
+length_signed_line_text key z lt =
+    let a = length-append key (61 ∷ (signed_decimal z ++ 10 ∷ [])) in
+    let b = length-append (signed_decimal z) (10 ∷ []) in
+    let d = length_signed_le 19 z (omega arith) (omega arith) in
+    omega arith
+
+-- ---- one step after another
+pub and_then_ok : {X Y E : Type 0} (r : Result X E) (f : X → Result Y E) (y : Y) → and_then r f ≡ Ok y → (x : X) × (r ≡ Ok x) × (f x ≡ Ok y)
+and_then_ok (Ok x) f y q = (x, refl, q)
+and_then_ok (Err e) f y q = absurd (apart_ok e y q)
+
+pub closed_ok : {X : Type 0} (line : ℕ) (t : List ℕ) (x y : X) → closed line t x ≡ Ok y → (t ≡ []) × (x ≡ y)
+closed_ok line [] x y q = (refl, same_ok {E = Refusal} x y q)
+closed_ok line (c ∷ cs) x y q = absurd (apart_ok _ y q)
 
 -- ---- a fault with its line
 pub placed_ok : {X : Type 0} (line : ℕ) (r : Result X LineFault) (x : X) → placed line r ≡ Ok x → r ≡ Ok x

@@ -2,9 +2,9 @@
 use Rattle.std.specs.Prelude.{ℕ, if◌then◌else◌, List, ◌++◌, length, take, drop, Ok, Err, Result, nat_le}
 use Rattle.text.specs.declared.refusal.TextTooShort.{TextTooShort}
 
--- a text in a draft: its first 512 bytes
+-- a text in a draft: its first 4,096 bytes
 abbrev pub kept : List ℕ → List ℕ
-kept text = take 512 text
+kept text = take 4096 text
 
 -- memory that a text was placed in: the text and what lay past it, if it has the length, else as
 -- it was

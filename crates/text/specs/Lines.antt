@@ -1,11 +1,12 @@
 -- How a line `key=value` of a text is read.
-use Rattle.std.specs.Prelude.{◌≡◌, ℕ, if◌then◌else◌, List, [], ◌∷◌, ◌++◌, Some, None, Ok, Err, codes, decimal, Option, Result, ◌==◌}
+use Rattle.std.specs.Prelude.{◌≡◌, ℕ, if◌then◌else◌, List, [], ◌∷◌, ◌++◌, ℤ, Some, None, Ok, Err, codes, decimal, Option, Result, ◌==◌}
+use Rattle.std.specs.Fmt.{signed_decimal}
 use Rattle.std.specs.Str.{bytes_eq}
 use Rattle.text.specs.declared.number.NumberFault.{NumberFault}
 use Rattle.text.specs.declared.line.LineFault.{LineFault}
-use Rattle.text.specs.declared.line.LineFault.TheVariants.{Key, Number, Feed}
+use Rattle.text.specs.declared.line.LineFault.TheVariants.{Key, Number, Feed, Extra}
 use Rattle.text.specs.declared.refusal.Refusal.{Refusal}
-use Rattle.text.specs.Numbers.{natural_of}
+use Rattle.text.specs.Numbers.{natural_of, signed_of}
 
 -- the bytes before the first b, or all of them
 abbrev pub before : ℕ → List ℕ → List ℕ
@@ -53,11 +54,29 @@ Reads answers f = (v : _) (r : _) → answers v r → r ≡ f v
 abbrev pub natural_line_of : List ℕ → ℕ → ℕ → List ℕ → Result (ℕ × List ℕ) LineFault
 natural_line_of key low high = line_of (natural_of low high) key
 
+-- a line `key=number`, with a minus before a number below zero
+abbrev pub signed_line_of : List ℕ → ℤ → ℤ → List ℕ → Result (ℤ × List ℕ) LineFault
+signed_line_of key low high = line_of (signed_of low high) key
+
 -- the fault with its line
 abbrev pub placed : {X : Type 0} → ℕ → Result X LineFault → Result X Refusal
 placed line (Ok x) = Ok x
 placed line (Err e) = Err record { line = line; fault = e }
 
+-- the next step, unless one was refused before
+abbrev pub and_then : {X Y E : Type 0} → Result X E → (X → Result Y E) → Result Y E
+and_then (Ok x) f = f x
+and_then (Err e) f = Err e
+
+-- nothing may follow the last line; this is the line after it
+abbrev pub closed : {X : Type 0} → ℕ → List ℕ → X → Result X Refusal
+closed line [] x = Ok x
+closed line (c ∷ cs) x = Err record { line = line; fault = Extra }
+
 -- a line `key=number` as it is written
 unfoldable pub line_text : List ℕ → ℕ → List ℕ
 line_text key n = key ++ (codes "=" ++ (decimal n ++ codes "\n"))
+
+-- the same of a signed number
+unfoldable pub signed_line_text : List ℕ → ℤ → List ℕ
+signed_line_text key z = key ++ (codes "=" ++ (signed_decimal z ++ codes "\n"))

@@ -1,13 +1,13 @@
 //! Lines `key=value`, each ended by a line feed.
-ghost use Rattle.std.specs.Prelude.{◌≡◌, ℕ, List, Result, Ok, IfOk};
+ghost use Rattle.std.specs.Prelude.{◌≡◌, ℕ, ◌≤◌, ◌≤ℤ◌, List, Result, Ok, IfOk};
 ghost use Rattle.std.specs.Fn.{FnReturnsAt};
 ghost use Rattle.std.specs.Option.{option_map};
 ghost use Rattle.std.specs.Result.{result_map_both as mapped_both};
 ghost use Rattle.text.specs.declared.line.LineFault.TheVariants.{Number};
 ghost use Rattle.text.specs.declared.number.NumberFault.{NumberFault as Fault};
-ghost use Rattle.text.specs.Lines.{before, after, keyed, line_of, Reads};
+ghost use Rattle.text.specs.Lines.{before, after, keyed, line_of, natural_line_of, signed_line_of, Reads};
 
-use crate::number::NumberFault;
+use crate::number::{NumberFault, natural, signed};
 use thiserror::Error;
 
 /// What is wrong with a line; of several faults of one line, the first in this order is told.
@@ -72,4 +72,35 @@ pub fn line_with<'a, T: Drop, F: Fn(&[u8]) -> Result<T, NumberFault>>(
     let x = read(value)?;
     let rest = rest.ok_or(LineFault::Feed)?;
     Ok((x, rest))
+}
+
+/// The number without a sign on the first line, which is to be `key=number`, and the bytes after
+/// that line. The number lies from `low` to `high`; an error tells what is wrong with the line.
+pub fn natural_line<'a>(
+    s: &'a [u8],
+    key: &[u8],
+    low: u64,
+    high: u64,
+) -> Result<(u64, &'a [u8]), LineFault>
+    ensures within { IfOk result (λ x. (low ≤ x.0) × (x.0 ≤ high)) }
+    ensures value { mapped_both (λ x. (x.0, x.1.now)) (λ e. e) result
+        ≡ natural_line_of key.now low high s.now }
+{
+    line_with(s, key, |value| natural(value, low, high))
+}
+
+/// The number, with a minus or not, on the first line, which is to be `key=number`, and the bytes
+/// after that line. The number lies from `low` to `high`; an error tells what is wrong with the
+/// line.
+pub fn signed_line<'a>(
+    s: &'a [u8],
+    key: &[u8],
+    low: i64,
+    high: i64,
+) -> Result<(i64, &'a [u8]), LineFault>
+    ensures within { IfOk result (λ x. (low ≤ℤ x.0) × (x.0 ≤ℤ high)) }
+    ensures value { mapped_both (λ x. (x.0, x.1.now)) (λ e. e) result
+        ≡ signed_line_of key.now low high s.now }
+{
+    line_with(s, key, |value| signed(value, low, high))
 }

@@ -112,8 +112,8 @@ fn places(rt: HostRuntime) -> Result<(), Fail> {
     assert!(rt;
         is_told(
             heap,
-            b"\n# nothing yet\nlimit 1 5\nsheets 2\nprint journal\nregister 1 10000 1 0\nlimit 1 5\nledger journal 4\nx",
-            b"4: sheets comes too late: it must be the first line\n5: print journal needs ledger journal before it\n7: limit comes too late: a call stands before it\n8: ledger comes too late: a call stands before it\n9: unknown word in front: --help shows all, in small letters\n",
+            b"\n# nothing yet\nlimit 1 5\nsheets 2\nprint journal\nstatement 1 1\nregister 1 10000 1 0\nlimit 1 5\nledger journal 4\nx",
+            b"4: sheets comes too late: it must be the first line\n5: print journal needs ledger journal before it\n6: statement ACCOUNT PAGE needs ledger journal before it\n8: limit comes too late: a call stands before it\n9: ledger comes too late: a call stands before it\n10: unknown word in front: --help shows all, in small letters\n",
         )?
     );
     assert!(rt;

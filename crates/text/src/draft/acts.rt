@@ -1,7 +1,7 @@
 //! What is done with drafts, and placing a text in the caller's memory.
-ghost use Rattle.std.specs.Prelude.{◌≡◌, ◌≤◌, [], ◌++◌, length, decimal};
+ghost use Rattle.std.specs.Prelude.{◌≡◌, ◌≤◌, [], ◌++◌, length, codes, decimal};
 ghost use Rattle.std.specs.Fmt.{signed_decimal};
-ghost use Rattle.text.specs.Lines.{line_text};
+ghost use Rattle.text.specs.Lines.{line_text, signed_line_text};
 ghost use Rattle.text.specs.Drafts.{kept, placed_text, placed_length};
 
 use crate::draft::Draft;
@@ -42,21 +42,37 @@ impl Draft {
         self.push(Buffer::new().format(z).as_bytes());
     }
 
+    fn push_key(&mut self, key: &[u8])
+        ensures { self.new ≡ kept (self.old ++ (key.now ++ codes "=")) }
+    {
+        self.push(key);
+        self.push(b"=");
+    }
+
     /// Puts a line `key=n` with its line feed after the text so far, or as much of it as there is
     /// room for.
     pub fn push_line(&mut self, key: &[u8], n: u64)
         ensures { self.new ≡ kept (self.old ++ line_text key.now n) }
     {
-        self.push(key);
-        self.push(b"=");
+        self.push_key(key);
         self.push_natural(n);
         self.push(b"\n");
     }
 
-    /// The text so far, at most 512 bytes.
+    /// Puts a line `key=z` with its line feed after the text so far, or as much of it as there is
+    /// room for; the number has a minus where it is negative.
+    pub fn push_signed_line(&mut self, key: &[u8], z: i64)
+        ensures { self.new ≡ kept (self.old ++ signed_line_text key.now z) }
+    {
+        self.push_key(key);
+        self.push_signed(z);
+        self.push(b"\n");
+    }
+
+    /// The text so far, at most 4,096 bytes.
     pub fn bytes(&self) -> &[u8]
         ensures value { result.now ≡ self.now }
-        ensures few { length result.now ≤ 512 }
+        ensures few { length result.now ≤ 4096 }
     {
         self.text.as_slice()
     }

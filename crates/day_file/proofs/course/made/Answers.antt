@@ -1,5 +1,3 @@
-use Rattle.std.proofs.Common.{◌≡◌, Err, rules}
-use Rattle.refusals.specs.declared.Refusal.TheVariants.{Sequence}
 use Rattle.pool.specs.Held.{held}
 use Rattle.day_file.proofs.Courses.{made_one}
 use Rattle.day_file.proofs.course.made.Goals as goal

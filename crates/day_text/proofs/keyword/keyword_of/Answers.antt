@@ -30,3 +30,6 @@ returns-in-settle c = read c.args.word.now (codes "settle") (omega arith) (searc
 
 pub returns-in-adjust : goal.returns-in-adjust
 returns-in-adjust c = read c.args.word.now (codes "adjust") (omega arith) (search rules)
+
+pub returns-in-statement : goal.returns-in-statement
+returns-in-statement c = read c.args.word.now (codes "statement") (omega arith) (search rules)

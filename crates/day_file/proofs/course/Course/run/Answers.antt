@@ -1,5 +1,4 @@
-use Rattle.std.proofs.Common.{◌≡◌, ◌≤◌, ◌<◌, ◌^◌, ◌+◌, ℕ, length, Some, None, Option, sym, ap, ◌∙◌, subst, arith, rules}
-use Rattle.std.specs.Option.{option_map}
+use Rattle.std.proofs.Common.{◌≡◌, ◌≤◌, ◌<◌, ◌^◌, length, None, sym, subst, arith, rules}
 use Rattle.day_file.specs.Lines.{Numbered, lines, next_line}
 use Rattle.day_file.proofs.Lined.{lines_few}
 use Rattle.day_file.proofs.Courses.{Going, begun, goes_next, few_before, goes_whole}

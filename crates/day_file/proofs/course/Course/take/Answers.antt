@@ -1,11 +1,8 @@
-use Rattle.std.proofs.Common.{Some, None, ◌∙◌, OnOk, Result, Ok, Err}
+use Rattle.std.proofs.Common.{Some, None, ◌∙◌}
 use Rattle.day_file.specs.Calls.{said}
 use Rattle.day_file.proofs.Courses.{makes_no_call, makes_call, on_no_line, on_line}
+use Rattle.day_file.proofs.Settles.{on_ok}
 use Rattle.day_file.proofs.course.Course.take.Goals as goal
-
-on_ok : {X E P Q : Type 0} (r : Result X E) → (P → Q) → OnOk r P → OnOk r Q
-on_ok (Ok x) f p = f p
-on_ok (Err e) f p = tt
 
 pub returns-in_default : goal.returns-in_default
 returns-in_default g c =

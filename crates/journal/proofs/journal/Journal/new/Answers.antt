@@ -9,4 +9,5 @@ invariant_of-result c = record {
   slots = refl;
   running = running_none;
   spans = λ _ _. (le_z_yes tt, le_z_yes tt);
+  moves = λ _ _ h. absurd (omega arith);
 }

@@ -19,9 +19,9 @@ invariant_of-self c =
     let f : SFits w64 (get_or zs a (pos 0)) = search rules in
     let k : SFits w64 x = c.ranges.cents in
     let ok : refusal (journal_view ls u) a x ≡ None = simp to_z-of_z at c.in_ok-check_post.ensures in
-    let more = one_more ls u zs a x s.within s.slots s.running s.spans ok in
+    let more = one_more ls u zs a x s.within s.slots s.running s.spans s.moves ok in
     let m : SFits w64 (get_or zs a (pos 0) +ℤ x) = more.fits in
-    simp to_z-of_z (record { within = more.within; slots = more.slots; running = more.running; spans = more.spans })
+    simp to_z-of_z (record { within = more.within; slots = more.slots; running = more.running; spans = more.spans; moves = more.moves })
 
 pub returns : goal.returns
 returns c =
@@ -35,7 +35,7 @@ returns c =
     let f : SFits w64 (get_or zs a (pos 0)) = search rules in
     let k : SFits w64 x = c.ranges.cents in
     let ok : refusal (journal_view ls u) a x ≡ None = simp to_z-of_z at c.in_ok-check_post.ensures in
-    let more = one_more ls u zs a x s.within s.slots s.running s.spans ok in
+    let more = one_more ls u zs a x s.within s.slots s.running s.spans s.moves ok in
     let m : SFits w64 (get_or zs a (pos 0) +ℤ x) = more.fits in
     record {
       answered = (ok, simp to_z-of_z more.posted);

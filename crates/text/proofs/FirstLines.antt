@@ -5,7 +5,7 @@ use Rattle.std.proofs.lemmas.Bool.{cond-true, cond-false, cases_Bool}
 use Rattle.std.specs.Option.{option_map, option_map_or}
 use Rattle.text.specs.Lines.{before, after}
 use Rattle.text.proofs.Lined.{apart_some, same_some, before_past, after_past, before_at, after_at, before_free, joined_cut, uncut}
-use Rattle.submission_text.specs.Faults.{first_lines}
+use Rattle.text.specs.Faults.{first_lines}
 
 -- ---- a line of s and its feed before other bytes
 pub joined_front : (s t : List ℕ) → before 10 (before 10 s ++ 10 ∷ t) ≡ before 10 s

@@ -1,18 +1,28 @@
 -- What is read line by line, each line as those before it ask: the first faulty line is told.
-use Rattle.std.proofs.Common.{◌≡◌, ℕ, suc, ◌+◌, ◌↔◌, List, [], ◌∷◌, ◌++◌, Some, None, Ok, Err, codes, Option, Result, sym, refl, ap, ◌∙◌, subst, inl, inr, ⊎_elim, arith}
-use Rattle.std.proofs.lemmas.Bool.{cond-true, cond-false, cases_Bool}
+use Rattle.std.proofs.Common.{◌≡◌, ℕ, suc, ◌+◌, ◌↔◌, List, [], ◌∷◌, ◌++◌, Some, None, Ok, Err, codes, Option, Result, sym, refl, ap, ◌∙◌, subst, inl, inr, ⊎_elim, arith, zero, ◌-◌, ◌<◌}
+use Rattle.std.proofs.lemmas.Bool.{cond-true, cond-false, cases_Bool, cases_lt}
 use Rattle.std.specs.Option.{option_map, option_map_or}
 use Rattle.std.specs.Str.{bytes_eq}
 use Rattle.text.specs.declared.number.NumberFault.{NumberFault}
 use Rattle.text.specs.declared.line.LineFault.{LineFault}
 use Rattle.text.specs.declared.line.LineFault.TheVariants.{Key, Number, Feed, Extra}
 use Rattle.text.specs.declared.refusal.Refusal.{Refusal}
-use Rattle.text.specs.Lines.{before, after, keyed, of_number, valued, ended, line_of, placed}
+use Rattle.text.specs.Lines.{before, after, keyed, of_number, valued, ended, line_of, placed, and_then, closed}
 use Rattle.text.specs.Refusals.{refusal_number, cause}
 use Rattle.text.proofs.Lined.{Free, Plain, apart_ok, joined_key, line_back, apart_some}
-use Rattle.submission_text.specs.Read.{and_then, closed}
-use Rattle.submission_text.specs.Faults.{first_lines, line_after, HasKey, CanGoOn, IsWhole, FeedMends, FaultAfter}
-use Rattle.submission_text.proofs.FirstLines as texts
+use Rattle.text.specs.Faults.{first_lines, line_after, HasKey, CanGoOn, IsWhole, FeedMends, FaultAfter, FirstFaultOf, SameFault}
+use Rattle.text.proofs.FirstLines as texts
+
+-- ---- one step after another
+pub then_same : {X Y E : Type 0} (r : Result X E) (f g : X → Result Y E)
+    → ((x : X) → f x ≡ g x) → and_then r f ≡ and_then r g
+then_same (Ok x) f g h = h x
+then_same (Err e) f g h = refl
+
+pub then_joined : {X Y Z E : Type 0} (r : Result X E) (f : X → Result Y E) (g : Y → Result Z E)
+    (h : X → Result Z E) → ((x : X) → and_then (f x) g ≡ h x) → and_then (and_then r f) g ≡ and_then r h
+then_joined (Ok x) f g h k = k x
+then_joined (Err e) f g h k = refl
 
 -- what is still to be read: nothing, or a line with a key and a reader of its value,
 -- and then as the value says
@@ -29,9 +39,8 @@ run (line key f next) n s = and_then (placed n (line_of f key s)) (λ x. run (ne
 abbrev pub Runs : {A : Type 0} → Plan A → ℕ → List ℕ → Type 0
 Runs {A = A} p n s = (a : A) × (run p n s ≡ Ok a)
 
--- the key is the one that is due, and some value is read after it
-pub record Sound {X : Type 0} (due key : List ℕ) (f : List ℕ → Result X NumberFault) : Type 0 where
-  pub own : key ≡ due
+-- some value is read after the key
+pub record Sound {X : Type 0} (key : List ℕ) (f : List ℕ → Result X NumberFault) : Type 0 where
   pub plain : Plain key
   pub sample : List ℕ
   pub value : X
@@ -39,9 +48,15 @@ pub record Sound {X : Type 0} (due key : List ℕ) (f : List ℕ → Result X Nu
   pub free : Free 10 sample
 
 -- each line of the plan is sound
-abbrev pub Good : {A : Type 0} → Plan A → (ℕ → List ℕ) → Type 0
-Good (done a) due = Unit {0}
-Good (line {X = X} key f next) due = Sound (due 0) key f × ((x : X) → Good (next x) (λ k. due (suc k)))
+abbrev pub Good : {A : Type 0} → Plan A → Type 0
+Good (done a) = Unit {0}
+Good (line {X = X} key f next) = Sound key f × ((x : X) → Good (next x))
+
+-- the keys that the plan reads from this text are those that are due
+abbrev pub Due : {A : Type 0} → Plan A → (ℕ → List ℕ) → List ℕ → Type 0
+Due (done a) due s = Unit {0}
+Due (line {X = X} key f next) due s =
+    (key ≡ due 0) × ((x : X) (rest : List ℕ) → line_of f key s ≡ Ok (x, rest) → Due (next x) (λ k. due (suc k)) rest)
 
 -- ---- the law, from one kind of texts to another
 record Carries (P Q : List ℕ → Type 0) (due need : ℕ → List ℕ) (s t : List ℕ) (k m : ℕ) : Type 0 where
@@ -76,7 +91,7 @@ goes_too : (P Q : List ℕ → Type 0) → ((t : List ℕ) → P t → Q t)
 goes_too P Q f n s z = (z.0, f z.0 z.1, z.2)
 
 -- the same texts in other words
-pub retold : (P Q : List ℕ → Type 0) (due : ℕ → List ℕ) (s : List ℕ) (k number : ℕ)
+retold : (P Q : List ℕ → Type 0) (due : ℕ → List ℕ) (s : List ℕ) (k number : ℕ)
     → ((t : List ℕ) → P t ↔ Q t) → FaultAfter P due s k number → FaultAfter Q due s k number
 retold P Q due s k number f h =
     let on = goes_too P Q (λ t. (f t).0) in
@@ -112,18 +127,18 @@ extra a due n c cs =
 abbrev Sample : {A : Type 0} → Plan A → ℕ → Type 0
 Sample p n = (t : List ℕ) × Runs p n t
 
-sample_of : {A : Type 0} (p : Plan A) (due : ℕ → List ℕ) → Good p due → (n : ℕ) → Sample p n
-sample_of (done a) due g n = ([], (a, refl))
-sample_of (line key f next) due g n =
+sample_of : {A : Type 0} (p : Plan A) → Good p → (n : ℕ) → Sample p n
+sample_of (done a) g n = ([], (a, refl))
+sample_of (line key f next) g n =
     let l = g.0 in
-    let more = sample_of (next l.value) (λ k. due (suc k)) (g.1 l.value) (suc n) in
+    let more = sample_of (next l.value) (g.1 l.value) (suc n) in
     let read = line_back f key l.plain l.sample l.value more.0 l.free l.read in (
       key ++ 61 ∷ (l.sample ++ 10 ∷ more.0),
       (more.1.0, ap (λ y. and_then (placed n y) (λ x. run (next x.0) (suc n) x.1)) read ∙ more.1.1),
     )
 
 -- the refusal is for the first faulty line, counted from line n
-abbrev pub Faulty : {A : Type 0} → Plan A → (ℕ → List ℕ) → ℕ → List ℕ → Refusal → Type 0
+abbrev Faulty : {A : Type 0} → Plan A → (ℕ → List ℕ) → ℕ → List ℕ → Refusal → Type 0
 Faulty p due n s r = (k : ℕ) × (r.line ≡ n + k) × FaultAfter (Runs p n) due s k (refusal_number (cause r.fault))
 
 same_err : {X E : Type 0} (d e : E) → ◌≡◌ {A = Result X E} (Err d) (Err e) → d ≡ e
@@ -225,18 +240,18 @@ module _ {A X : Type 0} (key : List ℕ) (f : List ℕ → Result X NumberFault)
         }) h
 
   -- ---- the first line is not read
-  module _ (due : ℕ → List ℕ) (sound : Sound (due 0) key f) (sample : Sample plan n) (s : List ℕ) where
+  module _ (due : ℕ → List ℕ) (own : key ≡ due 0) (sound : Sound key f) (sample : Sample plan n) (s : List ℕ) where
     begun : CanGoOn (Runs plan n) 0 s
     begun = (sample.0, sample.1, refl)
 
     no_key : keyed key (before 10 s) ≡ None → HasKey (due 0) (line_after 0 s) → ⊥
     no_key e z =
         let v = z.0 in
-        let named : before 10 s ≡ key ++ 61 ∷ v = z.1 ∙ ap (λ d. d ++ 61 ∷ v) (sym sound.own) in
+        let named : before 10 s ≡ key ++ 61 ∷ v = z.1 ∙ ap (λ d. d ++ 61 ∷ v) (sym own) in
         apart_some v (sym e ∙ ap (keyed key) named ∙ sound.plain.name v)
 
     has_key : (v : List ℕ) → keyed key (before 10 s) ≡ Some v → HasKey (due 0) (line_after 0 s)
-    has_key v e = (v, joined_key key (before 10 s) v e ∙ ap (λ d. d ++ 61 ∷ v) sound.own)
+    has_key v e = (v, joined_key key (before 10 s) v e ∙ ap (λ d. d ++ 61 ∷ v) own)
 
     -- no text with this line is read, with its line feed or without
     module _ (e : LineFault) (a : first s ≡ Err e) where
@@ -295,42 +310,87 @@ module _ {A X : Type 0} (key : List ℕ) (f : List ℕ → Result X NumberFault)
           }
 
   -- ---- by what the first line is, where the law holds of what follows it
-  module _ (due : ℕ → List ℕ) (g : Good plan due) (s : List ℕ) (r : Refusal)
-      (later : (x : X) (rest : List ℕ) → run (next x) (suc n) rest ≡ Err r
+  module _ (due : ℕ → List ℕ) (g : Good plan) (own : key ≡ due 0) (s : List ℕ) (r : Refusal)
+      (later : (x : X) (rest : List ℕ) → line_of f key s ≡ Ok (x, rest) → run (next x) (suc n) rest ≡ Err r
       → Faulty (next x) (λ k. due (suc k)) (suc n) rest r)
       (e : run plan n s ≡ Err r) where
     sample : Sample plan n
-    sample = sample_of plan due g n
+    sample = sample_of plan g n
 
     module _ (v : List ℕ) (a : keyed key (before 10 s) ≡ Some v) where
       by_feed : (x : X) → f v ≡ Ok x → (o : Option (List ℕ)) → after 10 s ≡ o → Faulty plan due n s r
       by_feed x b None c =
-          at_once plan due n s Feed r (unfed s x (valued_as due g.0 sample s v a (Ok x) b) c) e
-          (bad_end due g.0 sample s v a x b c (sample_of (next x) (λ k. due (suc k)) (g.1 x) (suc n)))
+          at_once plan due n s Feed r (unfed s x (valued_as due own g.0 sample s v a (Ok x) b) c) e
+          (bad_end due own g.0 sample s v a x b c (sample_of (next x) (g.1 x) (suc n)))
       by_feed x b (Some rest) c =
-          let read = valued_as due g.0 sample s v a (Ok x) b in
-          let h = later x rest (sym (goes_on s rest x read c) ∙ e) in
+          let read = valued_as due own g.0 sample s v a (Ok x) b in
+          let first_read : line_of f key s ≡ Ok (x, rest) = ap (λ y. ended y (after 10 s)) read ∙ ap (ended (Ok x)) c in
+          let h = later x rest first_read (sym (goes_on s rest x read c) ∙ e) in
           let at = h.1 in
           (suc h.0, omega arith, onward x due s rest h.0 (refusal_number (cause r.fault)) read c h.2)
 
       by_number : (y : Result X NumberFault) → f v ≡ y → Faulty plan due n s r
       by_number (Ok x) b = by_feed x b (after 10 s) refl
       by_number (Err d) b =
-          at_once plan due n s (Number d) r (stops s (Number d) (valued_as due g.0 sample s v a (Err d) b)) e
-          (bad_number due g.0 sample s v a d b)
+          at_once plan due n s (Number d) r (stops s (Number d) (valued_as due own g.0 sample s v a (Err d) b)) e
+          (bad_number due own g.0 sample s v a d b)
 
     by_key : (o : Option (List ℕ)) → keyed key (before 10 s) ≡ o → Faulty plan due n s r
     by_key None a =
-        at_once plan due n s Key r (stops s Key (ap (valued f) a)) e (wrong_key due g.0 sample s a)
+        at_once plan due n s Key r (stops s Key (ap (valued f) a)) e (wrong_key due own g.0 sample s a)
     by_key (Some v) a = by_number v a (f v) refl
 
 -- ---- every plan of sound lines tells the first faulty one
-pub first_faulty : {A : Type 0} (p : Plan A) (due : ℕ → List ℕ) → Good p due
-    → (n : ℕ) (s : List ℕ) (r : Refusal) → run p n s ≡ Err r → Faulty p due n s r
-first_faulty (done a) due g n [] r e = absurd (apart_ok r a (sym e))
-first_faulty (done a) due g n (c ∷ cs) r e =
+first_faulty : {A : Type 0} (p : Plan A) (due : ℕ → List ℕ) → Good p
+    → (n : ℕ) (s : List ℕ) → Due p due s → (r : Refusal) → run p n s ≡ Err r → Faulty p due n s r
+first_faulty (done a) due g n [] d r e = absurd (apart_ok r a (sym e))
+first_faulty (done a) due g n (c ∷ cs) d r e =
     at_once (done a) due n (c ∷ cs) Extra r refl e (extra a due n c cs)
-first_faulty (line key f next) due g n s r e =
-    by_key key f next n due g s r
-    (λ x rest q. first_faulty (next x) (λ k. due (suc k)) (g.1 x) (suc n) rest r q)
+first_faulty (line key f next) due g n s d r e =
+    by_key key f next n due g d.0 s r
+    (λ x rest read q. first_faulty (next x) (λ k. due (suc k)) (g.1 x) (suc n) rest (d.1 x rest read) r q)
     e (keyed key (before 10 s)) refl
+
+-- what a plan refuses, where the texts that it reads are those that are accepted
+pub first_fault_of : {A : Type 0} (p : Plan A) (Accepted : List ℕ → Type 0) (due : ℕ → List ℕ) → Good p
+    → ((t : List ℕ) → Runs p 1 t ↔ Accepted t) → (s : List ℕ) → Due p due s → (r : Refusal) → run p 1 s ≡ Err r
+    → FirstFaultOf Accepted due s r
+first_fault_of p Accepted due g same s d r e =
+    let h = first_faulty p due g 1 s d r e in
+    let at = h.1 in
+    record { good = h.0; place = omega arith; fault = retold (Runs p 1) Accepted due s h.0 _ same h.2 }
+
+-- ---- one text, one fault
+goes_less : (A : List ℕ → Type 0) (s : List ℕ) (k n m : ℕ) → m ≡ k + n → CanGoOn A m s → CanGoOn A n s
+goes_less A s zero n m e z = let q : m ≡ n = omega arith in subst (λ x. CanGoOn A x s) q z
+goes_less A s (suc k) n m e z =
+    let q : m ≡ suc (k + n) = omega arith in
+    let more : CanGoOn A (suc (k + n)) s = subst (λ x. CanGoOn A x s) q z in
+    goes_less A s k n (k + n) refl (more.0, more.1, texts.same_fewer (k + n) s more.0 more.2)
+
+module _ (A : List ℕ → Type 0) (due : ℕ → List ℕ) (s : List ℕ) where
+  not_before : (m n a b : ℕ) → FaultAfter A due s m a → FaultAfter A due s n b → m < n → ⊥
+  not_before m n a b g h lt =
+      let e : n ≡ (n - suc m) + suc m = omega arith in g.faulty (goes_less A s (n - suc m) (suc m) n e h.begun)
+
+  one_place : (m n a b : ℕ) → FaultAfter A due s m a → FaultAfter A due s n b → m ≡ n
+  one_place m n a b g h =
+      ⊎_elim
+      (λ lt. absurd (not_before m n a b g h lt))
+      (λ le. ⊎_elim (λ lt. absurd (not_before n m b a h g lt)) (λ ge. omega arith) (cases_lt n m))
+      (cases_lt m n)
+
+  one_number : (f : LineFault) (n b : ℕ) → FaultAfter A due s n (refusal_number (cause f))
+      → FaultAfter A due s n b → b ≡ refusal_number (cause f)
+  one_number Key n b g h = h.wrong_key.1 (g.wrong_key.0 refl)
+  one_number (Number d) n b g h = h.bad_number.1 (g.bad_number.0 refl)
+  one_number Feed n b g h = h.bad_end.1 (g.bad_end.0 refl)
+  one_number Extra n b g h = h.bad_end.1 (g.bad_end.0 refl)
+
+  pub one_fault_of : (q r : Refusal) → FirstFaultOf A due s q → FirstFaultOf A due s r → SameFault q r
+  one_fault_of q r g h =
+      let a = refusal_number (cause q.fault) in
+      let b = refusal_number (cause r.fault) in
+      let same = one_place g.good h.good a b g.fault h.fault in
+      let here = subst (λ n. FaultAfter A due s n a) same g.fault in
+      (g.place ∙ ap suc same ∙ sym h.place, one_number r.fault h.good a h.fault here)
